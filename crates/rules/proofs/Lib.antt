@@ -1,0 +1,7 @@
+pub mod Views
+pub mod Levels
+pub mod Steps
+pub mod Parsed
+pub mod Costed
+pub mod Agreed
+pub mod Checked

@@ -1,0 +1,7 @@
+use mathlib.Core.Path.{sym}
+use native.Mathlib.Omega.{arith}
+use Rattle.rules.proofs.Views.{length-view}
+use Rattle.rules.proofs.stack.Stack.len.Needs as need
+
+pub returns : need.returns
+returns g c = sym (length-view (c .args .self .now .items) (c .args .self .now .depth) (omega arith))
