@@ -22,6 +22,7 @@ use Rattle.rules.specs.Trees.{Rule, done, op, when, loop, break, flat, StandsF
 use Rattle.rules.specs.Costs.{plainCost, blockCost, balancedCost}
 use Rattle.rules.specs.Checks.{unless, first, nestingFault, firstFault, Checked, IsRule, costsOf, orFault, checked}
 use Rattle.rules.specs.Passes.{Walk, capped, start, plus, finish, pass}
+use Rattle.rules.proofs.Firsts.{none-both, none-holds}
 use Rattle.rules.proofs.Parsed.{stands, rule-flat}
 use Rattle.rules.proofs.Agreed.{refuses}
 use Rattle.rules.proofs.Costed.{Low, size, length-flat, costed}
@@ -98,14 +99,6 @@ check-passed l r e = go (firstFault l) refl (e ∙ refl)
     go : (o : Option CheckFault) → firstFault l ≡ o → r ≡ orFault o (costsOf (ruleOf l)) → made r (λ _. Checked l)
     go None f q = rw q (record { faultless = f })
     go (Some x) f q = rw q tt
-
-none-both : (a b : Option CheckFault) → first a b ≡ None → (a ≡ None) × (b ≡ None)
-none-both None b e = (refl, e)
-none-both (Some f) b e = absurd (let z : _≡_ {A = ℕ} 0 1 = cc in omega arith)
-
-none-holds : (b : Bool) (f : CheckFault) → unless b f ≡ None → b ≡ true
-none-holds true f e = refl
-none-holds false f e = absurd (let z : _≡_ {A = ℕ} 0 1 = cc in omega arith)
 
 pub is-rule : (l : List Line) → Checked l → IsRule l
 is-rule l c =

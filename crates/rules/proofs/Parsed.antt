@@ -22,6 +22,7 @@ use Rattle.rules.specs.Nesting.{below}
 use Rattle.rules.specs.Levels.{loopLevel}
 use Rattle.rules.specs.Trees.{Rule, done, op, when, loop, break, flat, Fits, Blocks, last, before, front, behind, replace, blocks, ruleOf}
 use Rattle.rules.specs.Checks.{unless, first, lineFault, after, nestingFault}
+use Rattle.rules.proofs.Firsts.{none-both, none-holds, never}
 
 -- what the lines l are, inside st: a block, what closes it, and so on outwards
 abbrev Parsed : List Open → List Line → Type 0
@@ -39,29 +40,17 @@ more f g e (open-is.Then ∷ st) l h p = (f (p .0), p .1, p .2, ap g (p .3) ∙ 
 more f g e (open-is.Else ∷ st) l h p = (f (p .0), p .1, ap g (p .2) ∙ sym (e (p .0) _), h (p .0) (p .3), p .4)
 more f g e (open-is.Loop i n ∷ st) l h p = (f (p .0), p .1, ap g (p .2) ∙ sym (e (p .0) _), h (p .0) (p .3), p .4)
 
--- no fault of two is none of either
-none-both : (a b : Option CheckFault) → first a b ≡ None → (a ≡ None) × (b ≡ None)
-none-both None b e = (refl, e)
-none-both (Some f) b e = absurd (let z : _≡_ {A = ℕ} 0 1 = cc in omega arith)
-
-none-holds : (b : Bool) (f : CheckFault) → unless b f ≡ None → b ≡ true
-none-holds true f e = refl
-none-holds false f e = absurd (let z : _≡_ {A = ℕ} 0 1 = cc in omega arith)
-
-never : {A : Type 0} (f : CheckFault) → Some f ≡ None → A
-never f e = absurd (let z : _≡_ {A = ℕ} 0 1 = cc in omega arith)
-
 -- the lines of a table without fault have none
-split : (x : Line) (l : List Line) (at : ℕ) (st : List Open) → nestingFault at st (x ∷ l) ≡ None → (lineFault at st x ≡ None) × (nestingFault (at + 1) (after st x) l ≡ None)
+pub split : (x : Line) (l : List Line) (at : ℕ) (st : List Open) → nestingFault at st (x ∷ l) ≡ None → (lineFault at st x ≡ None) × (nestingFault (at + 1) (after st x) l ≡ None)
 unfolding nestingFault
 split x l at st e = none-both (lineFault at st x) (nestingFault (at + 1) (after st x) l) e
 
-if-holds : (at : ℕ) (st : List Open) (a : Field) → lineFault at st (line.If a) ≡ None → (under 64 a ≡ true) × (length st < 8)
+pub if-holds : (at : ℕ) (st : List Open) (a : Field) → lineFault at st (line.If a) ≡ None → (under 64 a ≡ true) × (length st < 8)
 if-holds at st a e =
     let b = none-both (unless (under 64 a) (fault.FieldOffCard at)) (unless (ltb (length st) 8) (fault.TooDeep at)) e in
     (none-holds (under 64 a) _ (b .0), ltb-true _ _ (none-holds (ltb (length st) 8) _ (b .1)))
 
-loop-holds : (at : ℕ) (st : List Open) (i : Field) (n : ℕ) → lineFault at st (line.Loop i n) ≡ None → (under 64 i ≡ true) × (length st < 8) × (n < 1001)
+pub loop-holds : (at : ℕ) (st : List Open) (i : Field) (n : ℕ) → lineFault at st (line.Loop i n) ≡ None → (under 64 i ≡ true) × (length st < 8) × (n < 1001)
 loop-holds at st i n e =
     let deep = unless (ltb (length st) 8) (fault.TooDeep at) in
     let long = unless (ltb n 1001) (fault.TooManyRounds at) in

@@ -28,7 +28,8 @@ impl<T: Copy> Stack<T> {
 
     /// How many items there are.
     pub fn len(&self) -> usize
-        ensures { λ r. ⌜ r ≡ length (view (now (self .entry) .items) (now (self .entry) .depth)) ⌝ }
+        ensures few { λ r. ⌜ r ≤ 8 ⌝ }
+        ensures count { λ r. ⌜ r ≡ length (view (now (self .entry) .items) (now (self .entry) .depth)) ⌝ }
     {
         self.depth
     }

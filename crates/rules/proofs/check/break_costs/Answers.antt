@@ -10,10 +10,10 @@ use Rattle.rules.proofs.check.break_costs.Needs as need
 pub sub-level : need.sub-level
 sub-level c =
     let st = view (c .args .stack .now .items) (c .args .stack .now .depth) in
-    omega (arith, level-within (opens st), length-opens st, c .loop-level-body .ensures, c .len-level .ensures)
+    omega (arith, level-within (opens st), length-opens st, c .loop-level-body .ensures, c .len-level .ensures .count)
 
 pub cast-level : need.cast-level
-cast-level c = omega (arith, length-view (c .args .stack .now .items) (c .args .stack .now .depth) (omega arith), c .len-level .ensures)
+cast-level c = omega (arith, length-view (c .args .stack .now .items) (c .args .stack .now .depth) (omega arith), c .len-level .ensures .count)
 
 pub add-level : need.add-level
-add-level c = omega (arith, length-view (c .args .stack .now .items) (c .args .stack .now .depth) (omega arith), c .len-level .ensures)
+add-level c = omega (arith, length-view (c .args .stack .now .items) (c .args .stack .now .depth) (omega arith), c .len-level .ensures .count)

@@ -12,7 +12,7 @@ returns-then-is-loop g c =
     let st = view (c .args .stack .now .items) (c .args .stack .now .depth) in
     let t = ap loops (sym (c .peek .ensures)) ∙ sym (c .if-is-loop .ensures tt) in
     let f = loop-found st (c .loop-i .i) t in
-    omega (arith, f, c .loop-i .inv, c .len-depth .ensures)
+    omega (arith, f, c .loop-i .inv, c .len-depth .ensures .count)
 
 pub loop-i-again : need.loop-i-again
 loop-i-again g c =
@@ -22,5 +22,5 @@ loop-i-again g c =
 pub returns : need.returns
 returns g c =
     let st = view (c .args .stack .now .items) (c .args .stack .now .depth) in
-    let e = at-drop-all (λ fs. loopLevel (opens fs)) st (c .loop-i .i) (omega (arith, c .len-depth .ensures)) in
+    let e = at-drop-all (λ fs. loopLevel (opens fs)) st (c .loop-i .i) (omega (arith, c .len-depth .ensures .count)) in
     sym e ∙ c .loop-i .inv

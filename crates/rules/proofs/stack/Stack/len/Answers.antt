@@ -4,4 +4,4 @@ use Rattle.rules.proofs.Views.{length-view}
 use Rattle.rules.proofs.stack.Stack.len.Needs as need
 
 pub returns : need.returns
-returns g c = sym (length-view (c .args .self .now .items) (c .args .self .now .depth) (omega arith))
+returns g c = record { few = c .args .self .now .shallow; count = sym (length-view (c .args .self .now .items) (c .args .self .now .depth) (omega arith)) }

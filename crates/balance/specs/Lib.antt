@@ -1,0 +1,5 @@
+pub mod Fields
+pub mod Balanced
+pub mod Steps
+pub mod Writing
+pub mod Nested
