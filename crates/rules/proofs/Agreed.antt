@@ -21,8 +21,9 @@ use Rattle.rules.specs.declared.fault.CheckFault.the-variants as fault
 use Rattle.rules.specs.declared.check.Costs.{Costs}
 use Rattle.rules.specs.declared.check.Sums.{Sums}
 use Rattle.rules.specs.Levels.{opens, loopLevel}
-use Rattle.rules.specs.Checks.{unless, first, elseFault, endFault, lineFault, after, nestingFault}
-use Rattle.rules.specs.Passes.{Walk, free, plus, opening, elseOf, halving, endOf, closing, breaking, step, finish, andThen, pass}
+use Rattle.rules.specs.Checks.{elseFault, endFault, lineFault, after, nestingFault}
+use Rattle.rules.specs.Passes.{Walk, free, plus, opening, elseOf, halving, endOf, closing, breaking, step, finish, pass}
+use Rattle.rules.specs.Conditions.{unless, first, andThen}
 use Rattle.rules.proofs.Levels.{length-opens}
 
 -- a step refuses with the fault, or leaves the lines os open

@@ -23,7 +23,10 @@ use Rattle.rules.specs.declared.check.Sums.{Sums}
 use Rattle.rules.specs.Levels.{opens, loopLevel}
 use Rattle.rules.specs.Trees.{Rule, done, op, when, loop, break, flat, Fits}
 use Rattle.rules.specs.Costs.{plainCost, blockCost}
-use Rattle.rules.specs.Passes.{Walk, capped, free, plus, ifCosts, loopCosts, opening, step, andThen, pass}
+use Rattle.rules.specs.Passes.{Walk, free, plus, ifCosts, loopCosts, opening, step, pass}
+use Rattle.rules.specs.Capped.{capped}
+use Rattle.rules.specs.Conditions.{andThen}
+use Rattle.rules.proofs.Caps.{cap-times}
 use Rattle.rules.proofs.Levels.{length-opens}
 
 -- how many lines a rule has
@@ -61,18 +64,6 @@ plus-none c h = costs-same (c .plain) _ (c .balanced) _ (omega arith) (omega ari
 
 plus-plus : (c : Costs) (p b q d : ℕ) → plus (plus c p b) q d ≡ plus c (p + q) (b + d)
 plus-plus c p b q d = costs-same _ _ _ _ (omega arith) (omega arith)
-
-cap-times : (n a : ℕ) → capped (n * capped a) ≡ capped (n * a)
-cap-times zero a = omega arith
-cap-times (suc n) a = elim (cases-lt a 65536) [ inl h ↦ small h | inr h ↦ large h ]
-  where
-    small : a < 65536 → capped (suc n * capped a) ≡ capped (suc n * a)
-    small h = let e : capped a ≡ a = omega arith in ap (λ x. capped (suc n * x)) e
-    large : 65536 ≤ a → capped (suc n * capped a) ≡ capped (suc n * a)
-    large h =
-        let e : capped a ≡ 65536 = omega arith in
-        let m = mul-le-mul-left n h in
-        ap (λ x. capped (suc n * x)) e ∙ (omega arith)
 
 if-sum : (c : Costs) (p b q d : ℕ) → ifCosts (record { before = c; first = plus free p b }) (plus free q d) ≡ plus c (1 + max p q) (5 + b + d)
 if-sum c p b q d = costs-same _ _ _ _ (omega arith) (omega arith)

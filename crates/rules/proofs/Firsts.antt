@@ -5,16 +5,15 @@ use Prim.Native.Nat.{ℕ}
 use native.Mathlib.Omega.{arith}
 use Rattle.std.specs.declared.option.Option.{Option}
 use Rattle.std.specs.declared.option.Option.the-variants.{Some, None}
-use Rattle.rules.specs.declared.fault.CheckFault.{CheckFault}
-use Rattle.rules.specs.Checks.{unless, first}
+use Rattle.rules.specs.Conditions.{unless, first}
 
-pub none-both : (a b : Option CheckFault) → first a b ≡ None → (a ≡ None) × (b ≡ None)
+pub none-both : {F : Type 0} (a b : Option F) → first a b ≡ None → (a ≡ None) × (b ≡ None)
 none-both None b e = (refl, e)
 none-both (Some f) b e = absurd (let z : _≡_ {A = ℕ} 0 1 = cc in omega arith)
 
-pub none-holds : (b : Bool) (f : CheckFault) → unless b f ≡ None → b ≡ true
+pub none-holds : {F : Type 0} (b : Bool) (f : F) → unless b f ≡ None → b ≡ true
 none-holds true f e = refl
 none-holds false f e = absurd (let z : _≡_ {A = ℕ} 0 1 = cc in omega arith)
 
-pub never : {A : Type 0} (f : CheckFault) → Some f ≡ None → A
+pub never : {A F : Type 0} (f : F) → Some f ≡ None → A
 never f e = absurd (let z : _≡_ {A = ℕ} 0 1 = cc in omega arith)

@@ -20,8 +20,11 @@ use Rattle.rules.specs.declared.fault.CheckFault.{CheckFault}
 use Rattle.rules.specs.declared.fault.CheckFault.the-variants as fault
 use Rattle.rules.specs.Nesting.{below}
 use Rattle.rules.specs.Levels.{loopLevel}
-use Rattle.rules.specs.Trees.{Rule, done, op, when, loop, break, flat, Fits, Blocks, last, before, front, behind, replace, blocks, ruleOf}
-use Rattle.rules.specs.Checks.{unless, first, lineFault, after, nestingFault}
+use Rattle.rules.specs.Trees.{Rule, done, op, when, loop, break, flat, Fits, blocks, ruleOf}
+use Rattle.rules.specs.Blocks.{Blocks, last, before, front, behind, replace}
+use Rattle.rules.proofs.Blocks.{front-replace, replace-replace, replace-front}
+use Rattle.rules.specs.Checks.{lineFault, after, nestingFault}
+use Rattle.rules.specs.Conditions.{unless, first}
 use Rattle.rules.proofs.Firsts.{none-both, none-holds, never}
 
 -- what the lines l are, inside st: a block, what closes it, and so on outwards
@@ -113,18 +116,6 @@ joined-done (when a p q r) = ap (when a p q) (joined-done r)
 joined-done (loop i n c r) = ap (loop i n c) (joined-done r)
 joined-done (break r) = ap break (joined-done r)
 
-front-replace : (r : Rule) (bs : Blocks) → front (replace r bs) ≡ r
-front-replace r (last q) = refl
-front-replace r (before q bs) = refl
-
-replace-replace : (r q : Rule) (bs : Blocks) → replace r (replace q bs) ≡ replace r bs
-replace-replace r q (last x) = refl
-replace-replace r q (before x bs) = refl
-
-replace-front : (bs : Blocks) → replace (front bs) bs ≡ bs
-replace-front (last x) = refl
-replace-front (before x bs) = refl
-
 blocks-flat : (r : Rule) (l : List Line) → blocks (flat r l) ≡ replace (joined r (front (blocks l))) (blocks l)
 unfolding flat blocks joined
 blocks-flat done l = sym (replace-front (blocks l))
@@ -145,14 +136,14 @@ blocks-flat (when a p q r) l =
     let hp : blocks (flat p (line.Else ∷ flat q (line.End ∷ flat r l))) ≡ before p (blocks (flat q (line.End ∷ flat r l))) =
         blocks-flat p (line.Else ∷ flat q (line.End ∷ flat r l)) ∙ ap (λ x. before x (blocks (flat q (line.End ∷ flat r l)))) (joined-done p) in
     let all = hp ∙ ap (before p) hq in
-    ap (λ x. replace (when a (front x) (front (behind x)) (front (behind (behind x)))) (behind (behind x))) all
+    ap (λ x. replace (when a (front x) (front (behind done x)) (front (behind done (behind done x)))) (behind done (behind done x))) all
     ∙ ap (λ x. replace (when a p q (front x)) x) hr
     ∙ ap (λ x. replace (when a p q x) (replace (joined r (front bs)) bs)) (front-replace _ bs) ∙ replace-replace _ _ bs
 blocks-flat (loop i n b r) l =
     let bs = blocks l in
     let hr = blocks-flat r l in
     let hb : blocks (flat b (line.End ∷ flat r l)) ≡ before b (blocks (flat r l)) = blocks-flat b (line.End ∷ flat r l) ∙ ap (λ x. before x (blocks (flat r l))) (joined-done b) in
-    ap (λ x. replace (loop i n (front x) (front (behind x))) (behind x)) hb
+    ap (λ x. replace (loop i n (front x) (front (behind done x))) (behind done x)) hb
     ∙ ap (λ x. replace (loop i n b (front x)) x) hr
     ∙ ap (λ x. replace (loop i n b x) (replace (joined r (front bs)) bs)) (front-replace _ bs) ∙ replace-replace _ _ bs
 

@@ -1,14 +1,12 @@
 -- Which tables are rules: the conditions of the check, in their order.
 use mathlib.Core.Path.{_≡_}
 use mathlib.Core.List.{List, [], _∷_}
-use mathlib.Core.Bool.{Bool, cond}
 use Prim.Native.Nat.{ℕ, _+_, _≤_}
-use lib.Dec.{eqb, ltb}
+use lib.Dec.{ltb}
 use lib.ListN.{length}
 use Rattle.std.specs.declared.option.Option.{Option}
 use Rattle.std.specs.declared.option.Option.the-variants.{Some, None}
 use Rattle.std.specs.declared.result.Result.{Result}
-use Rattle.std.specs.declared.result.Result.the-variants.{Ok, Err}
 use Rattle.lines.specs.Operations.{within, under}
 use Rattle.lines.specs.declared.line.Line.{Line}
 use Rattle.lines.specs.declared.line.Line.the-variants as line
@@ -17,19 +15,11 @@ use Rattle.rules.specs.declared.open.Open.the-variants as open-is
 use Rattle.rules.specs.declared.fault.CheckFault.{CheckFault}
 use Rattle.rules.specs.declared.fault.CheckFault.the-variants as fault
 use Rattle.rules.specs.declared.check.Costs.{Costs}
+use Rattle.rules.specs.Conditions.{unless, first, orFault}
 use Rattle.rules.specs.Nesting.{below}
 use Rattle.rules.specs.Levels.{loopLevel}
 use Rattle.rules.specs.Trees.{Rule, StandsFor, Fits, ruleOf}
 use Rattle.rules.specs.Costs.{plainCost, balancedCost}
-
--- The fault, unless the condition holds.
-abbrev pub unless : Bool → CheckFault → Option CheckFault
-unless fine f = cond fine None (Some f)
-
--- The first of two faults.
-abbrev pub first : Option CheckFault → Option CheckFault → Option CheckFault
-first (Some f) g = Some f
-first None g = g
 
 -- `else` fits an open `if` that had none yet.
 abbrev pub elseFault : ℕ → List Open → Option CheckFault
@@ -96,11 +86,6 @@ pub record IsRule (lines : List Line) : Type 0 where
 -- What a rule costs.
 abbrev pub costsOf : Rule → Costs
 costsOf r = record { plain = plainCost r; balanced = balancedCost r }
-
--- A value, unless there is a fault.
-abbrev pub orFault : {A : Type 0} → Option CheckFault → A → Result A CheckFault
-orFault None a = Ok a
-orFault (Some f) a = Err f
 
 -- What the check answers: the first fault, or the costs of the rule that the table stands for.
 abbrev pub checked : List Line → Result Costs CheckFault

@@ -1,5 +1,8 @@
+pub mod Blocks
 pub mod Trees
 pub mod Costs
+pub mod Conditions
+pub mod Capped
 pub mod Nesting
 pub mod Levels
 pub mod Faults

@@ -16,11 +16,9 @@ use Rattle.rules.specs.declared.fault.CheckFault.{CheckFault}
 use Rattle.rules.specs.declared.fault.CheckFault.the-variants as fault
 use Rattle.rules.specs.declared.check.Costs.{Costs}
 use Rattle.rules.specs.declared.check.Sums.{Sums}
+use Rattle.rules.specs.Conditions.{andThen}
+use Rattle.rules.specs.Capped.{capped}
 use Rattle.rules.specs.Levels.{opens, loopLevel}
-
--- A cost, cut off above 65,535.
-abbrev pub capped : ℕ → ℕ
-capped n = min n 65536
 
 -- Nothing, the costs of an empty block.
 abbrev pub free : Costs
@@ -91,10 +89,6 @@ step at w (line.Turn i n) = Err (fault.TurnInRule at)
 abbrev pub finish : ℕ → Walk → Result Costs CheckFault
 finish at ([], c) = cond (ltb (c .balanced) 65536) (Ok c) (Err (fault.TooManySteps at))
 finish at (f ∷ st, c) = Err (fault.Unclosed at)
-
-abbrev pub andThen : {A B : Type 0} → Result A CheckFault → (A → Result B CheckFault) → Result B CheckFault
-andThen (Ok a) k = k a
-andThen (Err e) k = Err e
 
 -- The pass from line `at` on.
 unfoldable pub pass : ℕ → Walk → List Line → Result Costs CheckFault

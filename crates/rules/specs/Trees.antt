@@ -5,6 +5,7 @@ use mathlib.Core.Bool.{true}
 use Prim.Native.Nat.{ℕ, suc, _<_}
 use Rattle.lines.specs.Operations.{within, under}
 use Rattle.lines.specs.declared.field.Field.{Field}
+use Rattle.rules.specs.Blocks.{Blocks, last, before, front, behind, replace}
 use Rattle.lines.specs.declared.operation.Operation.{Operation}
 use Rattle.lines.specs.declared.line.Line.{Line}
 use Rattle.lines.specs.declared.line.Line.the-variants as line
@@ -29,28 +30,8 @@ flat (break r) after = line.Break ∷ flat r after
 abbrev pub StandsFor : List Line → Rule → Type 0
 StandsFor lines r = lines ≡ flat r []
 
--- The blocks that a list of lines begins with, the innermost first: a block, and behind each `else` or `end` the next one outwards.
-pub data Blocks : Type 0 where
-  last : Rule → Blocks
-  before : Rule → Blocks → Blocks
-
--- The block that comes first.
-abbrev pub front : Blocks → Rule
-front (last r) = r
-front (before r bs) = r
-
--- The blocks behind the first.
-abbrev pub behind : Blocks → Blocks
-behind (last r) = last done
-behind (before r bs) = bs
-
--- The blocks with another one in place of the first.
-abbrev pub replace : Rule → Blocks → Blocks
-replace r (last q) = last r
-replace r (before q bs) = before r bs
-
 -- A table read from its end: a line is put in front of its block, `else` and `end` begin a block inside it, `if` and `loop` take theirs.
-unfoldable pub blocks : List Line → Blocks
+unfoldable pub blocks : List Line → Blocks Rule
 blocks [] = last done
 blocks (line.Operation o ∷ l) = let bs = blocks l in replace (op o (front bs)) bs
 blocks (line.Break ∷ l) = let bs = blocks l in replace (break (front bs)) bs
@@ -58,12 +39,12 @@ blocks (line.Else ∷ l) = before done (blocks l)
 blocks (line.End ∷ l) = before done (blocks l)
 blocks (line.If a ∷ l) =
   let bs = blocks l in
-  let cs = behind bs in
-  let ds = behind cs in
+  let cs = behind done bs in
+  let ds = behind done cs in
   replace (when a (front bs) (front cs) (front ds)) ds
 blocks (line.Loop i n ∷ l) =
   let bs = blocks l in
-  let cs = behind bs in
+  let cs = behind done bs in
   replace (loop i n (front bs) (front cs)) cs
 blocks (line.Turn i n ∷ l) = blocks l
 

@@ -1,10 +1,11 @@
 ghost use mathlib.Core.Path.{_≡_};
 ghost use mathlib.Core.List.{[]};
-ghost use Prim.Native.Nat.{_+_, _*_};
 ghost use Rattle.std.specs.Vec.{made};
 ghost use Rattle.rules.specs.Checks.{checked, Checked, IsRule};
 ghost use Rattle.rules.specs.Nesting.{view};
-ghost use Rattle.rules.specs.Passes.{capped, plus, ifCosts, loopCosts, opening, halving, closing, breaking, step, standing, start, pass, finish};
+ghost use Rattle.rules.specs.Passes.{plus, ifCosts, loopCosts, opening, halving, closing, breaking, step, standing, start, pass, finish};
+use crate::capped::capped_product;
+use crate::capped::capped_sum;
 use crate::fault::CheckFault;
 use crate::open::Frame;
 use crate::open::Open;
@@ -24,9 +25,6 @@ pub const CARD_FIELDS: u8 = 64;
 
 /// The most steps of a balanced rule.
 pub const MAX_STEPS: u32 = 65_535;
-
-/// Costs are cut off here: any more is too many steps all the same.
-const CAP: u32 = 65_536;
 
 /// What a rule costs.
 #[derive(Clone, Copy, PartialEq, Debug)]
@@ -49,23 +47,11 @@ const FREE: Costs = Costs { plain: 0, balanced: 0 };
 /// Before the first line: a balanced rule begins with three lines of its own.
 const START: Costs = Costs { plain: 0, balanced: 3 };
 
-fn sum(a: u32, b: u32) -> u32
-    ensures { λ r. ⌜ r ≡ capped (a + b) ⌝ }
-{
-    a.saturating_add(b).min(CAP)
-}
-
-fn product(n: u32, a: u32) -> u32
-    ensures { λ r. ⌜ r ≡ capped (n * a) ⌝ }
-{
-    n.saturating_mul(a).min(CAP)
-}
-
 impl Costs {
     fn plus(self, plain: u32, balanced: u32) -> Costs
         ensures { λ r. ⌜ r ≡ plus self plain balanced ⌝ }
     {
-        Costs { plain: sum(self.plain, plain), balanced: sum(self.balanced, balanced) }
+        Costs { plain: capped_sum(self.plain, plain), balanced: capped_sum(self.balanced, balanced) }
     }
 }
 
@@ -97,15 +83,15 @@ fn halve_line(stack: &mut Stack<Frame<Sums>>, costs: Costs, at: usize) -> Result
 fn if_costs(sums: Sums, second: Costs) -> Costs
     ensures { λ r. ⌜ r ≡ ifCosts sums second ⌝ }
 {
-    let longer = sum(1, sums.first.plain.max(second.plain));
-    sums.before.plus(longer, sum(5, sums.first.balanced)).plus(0, second.balanced)
+    let longer = capped_sum(1, sums.first.plain.max(second.plain));
+    sums.before.plus(longer, capped_sum(5, sums.first.balanced)).plus(0, second.balanced)
 }
 
 /// The costs of a loop whose body costs so much, with what was before it.
 fn loop_costs(rounds: u32, sums: Sums, body: Costs) -> Costs
     ensures { λ r. ⌜ r ≡ loopCosts rounds sums body ⌝ }
 {
-    sums.before.plus(1, 4).plus(product(rounds, body.plain), product(rounds, sum(body.balanced, 1)))
+    sums.before.plus(1, 4).plus(capped_product(rounds, body.plain), capped_product(rounds, capped_sum(body.balanced, 1)))
 }
 
 fn close_line(stack: &mut Stack<Frame<Sums>>, costs: Costs, at: usize) -> Result<Costs, CheckFault>
