@@ -42,11 +42,11 @@ pass-is (rule.when a p q r) l st m t e =
     let one = add-one k in
     let hr = pass-is r l st m t e in
     let hq : pass (open-is.Else ∷ st) (rule.flat q (line.End ∷ rule.flat r l)) ≡ flat (balance q (k + 1) j (balance r k j m)) t =
-        pass-is q (line.End ∷ rule.flat r l) (open-is.Else ∷ st) (balance r k j m) t hr ∙ ap (λ n. flat (balance q n j (balance r k j m)) t) (sym one) in
+    pass-is q (line.End ∷ rule.flat r l) (open-is.Else ∷ st) (balance r k j m) t hr ∙ ap (λ n. flat (balance q n j (balance r k j m)) t) (sym one) in
     let second = does (op.Not (f 66) (choice (k + 1))) (does (op.And (mask (k + 1)) (mask k) (f 66)) (balance q (k + 1) j (balance r k j m))) in
     let hp : pass (open-is.Then ∷ st) (rule.flat p (line.Else ∷ rule.flat q (line.End ∷ rule.flat r l))) ≡ flat (balance p (k + 1) j second) t =
-        pass-is p (line.Else ∷ rule.flat q (line.End ∷ rule.flat r l)) (open-is.Then ∷ st) second t (ap (λ z. turning k ++ z) hq)
-        ∙ ap (λ n. flat (balance p n j second) t) (sym one) in
+    pass-is p (line.Else ∷ rule.flat q (line.End ∷ rule.flat r l)) (open-is.Then ∷ st) second t (ap (λ z. turning k ++ z) hq)
+    ∙ ap (λ n. flat (balance p n j second) t) (sym one) in
     ap (λ z. choosing k a ++ z) hp
 pass-is (rule.loop i n b r) l st m t e =
     let k = length st in
@@ -55,8 +55,8 @@ pass-is (rule.loop i n b r) l st m t e =
     let hr = pass-is r l st m t e in
     let back : List Line = line.End ∷ (doing (op.Copy i (saved (k + 1))) ∷ flat (balance r k j m) t) in
     let hb : pass (open-is.Loop i n ∷ st) (rule.flat b (line.End ∷ rule.flat r l)) ≡ flat (balance b (k + 1) (k + 1) stop) back =
-        pass-is b (line.End ∷ rule.flat r l) (open-is.Loop i n ∷ st) stop back (ap (λ z. ending (open-is.Loop i n) k ++ z) hr)
-        ∙ ap (λ x. flat (balance b x x stop) back) (sym one) in
+    pass-is b (line.End ∷ rule.flat r l) (open-is.Loop i n ∷ st) stop back (ap (λ z. ending (open-is.Loop i n) k ++ z) hr)
+    ∙ ap (λ x. flat (balance b x x stop) back) (sym one) in
     ap (λ z. looping k i n ++ z) hb
 pass-is (rule.break r) l st m t e =
     let k = length st in

@@ -34,15 +34,15 @@ clears r (suc n) l = does (op.And (mask r) (mask r) (f 66)) (clears (r + 1) n l)
 unfoldable pub balance : Rule → ℕ → ℕ → Lines → Lines
 balance rule.done k j l = l
 balance (rule.op o r) k j l =
-  does (into o (f 66)) (does (op.And (f 66) (f 66) (mask k)) (does (op.Not (f 67) (mask k)) (does (op.And (f 67) (f 67) (destination o))
+    does (into o (f 66)) (does (op.And (f 66) (f 66) (mask k)) (does (op.Not (f 67) (mask k)) (does (op.And (f 67) (f 67) (destination o))
     (does (op.Or (destination o) (f 66) (f 67)) (balance r k j l)))))
 balance (rule.when a p q r) k j l =
-  does (op.Same (f 66) a (f 64)) (does (op.Sub (choice (k + 1)) (f 66) (f 65)) (does (op.And (mask (k + 1)) (mask k) (choice (k + 1)))
+    does (op.Same (f 66) a (f 64)) (does (op.Sub (choice (k + 1)) (f 66) (f 65)) (does (op.And (mask (k + 1)) (mask k) (choice (k + 1)))
     (balance p (k + 1) j
-      (does (op.Not (f 66) (choice (k + 1))) (does (op.And (mask (k + 1)) (mask k) (f 66))
-        (balance q (k + 1) j (balance r k j l)))))))
+    (does (op.Not (f 66) (choice (k + 1))) (does (op.And (mask (k + 1)) (mask k) (f 66))
+    (balance q (k + 1) j (balance r k j l)))))))
 balance (rule.loop i n b r) k j l =
-  does (op.Copy (saved (k + 1)) i) (does (op.Copy (mask (k + 1)) (mask k)) (turn i n (balance b (k + 1) (k + 1) stop)
+    does (op.Copy (saved (k + 1)) i) (does (op.Copy (mask (k + 1)) (mask k)) (turn i n (balance b (k + 1) (k + 1) stop)
     (does (op.Copy i (saved (k + 1))) (balance r k j l))))
 balance (rule.break r) k j l = does (op.Not (f 66) (mask k)) (clears j (k + 1 - j) (balance r k j l))
 

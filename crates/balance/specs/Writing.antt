@@ -37,7 +37,7 @@ endingOf (o ∷ st) = ending o (length st)
 -- The five lines of an operation at level k.
 abbrev pub operating : ℕ → Operation → List Line
 operating k o =
-  doing (into o (f 66)) ∷ (doing (op.And (f 66) (f 66) (mask k)) ∷ (doing (op.Not (f 67) (mask k)) ∷ (doing (op.And (f 67) (f 67) (destination o)) ∷ (doing (op.Or (destination o) (f 66) (f 67)) ∷ []))))
+    doing (into o (f 66)) ∷ (doing (op.And (f 66) (f 66) (mask k)) ∷ (doing (op.Not (f 67) (mask k)) ∷ (doing (op.And (f 67) (f 67) (destination o)) ∷ (doing (op.Or (destination o) (f 66) (f 67)) ∷ []))))
 
 -- The lines of an `if` at level k.
 abbrev pub choosing : ℕ → Field → List Line

@@ -4,9 +4,17 @@ ghost use Rattle.rules.specs.Levels.{opens};
 ghost use mathlib.Core.List.{[]};
 ghost use Rattle.lines.specs.Overwrites.{Wrote};
 ghost use Rattle.rules.specs.Checks.{after, nestingFault};
-ghost use Rattle.balance.specs.Writing.{pass};
+ghost use mathlib.Core.List.{_++_};
+ghost use lib.ListN.{length, take};
+ghost use Rattle.std.specs.Vec.{made};
+ghost use Rattle.rules.specs.Checks.{Checked};
+ghost use Rattle.balance.specs.Admission.{Admitted};
+ghost use Rattle.balance.specs.Balancing.{balancedLines, balanceAnswer, tableAfter, AlwaysAdmitted};
+ghost use Rattle.balance.specs.Writing.{pass, beginning};
 ghost use Rattle.std.specs.declared.option.Option.the-variants.{None};
 ghost use Rattle.balance.specs.Nested.{Nested};
+use crate::fault::BalanceFault;
+use crate::write::write_beginning;
 use crate::write::write_line;
 use lines::line::Line;
 use rules::open::Frame;
@@ -18,7 +26,10 @@ fn write_lines(lines: &[Line], table: &mut [Line], at: usize) -> usize
     requires { ⌜ nestingFault 0 [] (now lines) ≡ None ⌝ }
     ensures { λ r. ⌜ Wrote (now (table .entry)) at (pass [] (now (lines .entry))) (now (table .exit)) r ⌝ }
 {
-    let mut stack = Stack::new(Frame { part: Open::Then, kept: () });
+    let mut stack = Stack::new(Frame {
+        part: Open::Then,
+        kept: (),
+    });
     let mut next = at;
     for line in lines {
         next = write_line(table, next, &stack, line);
@@ -34,20 +45,54 @@ fn advance(stack: &mut Stack<Frame<()>>, line: &Line)
 {
     match line {
         Line::If(_) => {
-            let _ = stack.push(Frame { part: Open::Then, kept: () });
+            let _ = stack.push(Frame {
+                part: Open::Then,
+                kept: (),
+            });
         }
         Line::Else => {
             let _ = stack.pop();
-            let _ = stack.push(Frame { part: Open::Else, kept: () });
+            let _ = stack.push(Frame {
+                part: Open::Else,
+                kept: (),
+            });
         }
         Line::End => {
             let _ = stack.pop();
         }
         Line::Loop(counter, rounds) => {
-            let _ = stack.push(Frame { part: Open::Loop(*counter, *rounds), kept: () });
+            let _ = stack.push(Frame {
+                part: Open::Loop(*counter, *rounds),
+                kept: (),
+            });
         }
         Line::Operation(_) => {}
         Line::Break => {}
         Line::Turn(_, _) => {}
     }
+}
+
+/// Writes the balanced lines of a checked rule, as far as they fit, and answers how many there are.
+fn write_rule(lines: &[Line], table: &mut [Line]) -> usize
+    requires { ⌜ nestingFault 0 [] (now lines) ≡ None ⌝ }
+    ensures { λ r. ⌜ Wrote (now (table .entry)) 0 (beginning ++ pass [] (now (lines .entry))) (now (table .exit)) r ⌝ }
+{
+    let next = write_beginning(table);
+    write_lines(lines, table, next)
+}
+
+/// Balances a checked rule into the lent table, and answers how many lines it wrote.
+pub fn balance(lines: &[Line], table: &mut [Line]) -> Result<usize, BalanceFault>
+    requires { ⌜ Checked (now lines) ⌝ }
+    ensures answer { λ r. ⌜ r ≡ balanceAnswer (balancedLines (now (lines .entry))) (length (now (table .entry))) ⌝ }
+    ensures table { λ _. ⌜ now (table .exit) ≡ tableAfter (balancedLines (now (lines .entry))) (now (table .entry)) ⌝ }
+    ensures admitted { λ r. ⌜ made r (λ n. Admitted (take n (now (table .exit)))) ⌝ }
+    ensures always { λ _. ⌜ AlwaysAdmitted (now (lines .entry)) ⌝ }
+{
+    // Into a table of no entries the lines are only counted.
+    let needed = write_rule(lines, &mut []);
+    if needed > table.len() {
+        return Err(BalanceFault::TableTooShort);
+    }
+    Ok(write_rule(lines, table))
 }

@@ -5,7 +5,7 @@ ghost use Rattle.lines.specs.Overwrites.{Wrote};
 ghost use Rattle.rules.specs.Nesting.{view};
 ghost use Rattle.rules.specs.Levels.{opens};
 ghost use Rattle.balance.specs.Fields.{mask, choice, saved};
-ghost use Rattle.balance.specs.Writing.{operating, choosing, turning, looping, ending, endingOf, clearing, breaking, written};
+ghost use Rattle.balance.specs.Writing.{beginning, operating, choosing, turning, looping, ending, endingOf, clearing, breaking, written};
 use lines::field::Field;
 use lines::line::Line;
 use lines::operation::Operation;
@@ -46,6 +46,18 @@ fn saved(level: usize) -> Field
     ensures { λ r. ⌜ r ≡ saved level ⌝ }
 {
     Field(84 + level as u8)
+}
+
+/// The masks of level 0 count everywhere.
+pub fn write_beginning(table: &mut [Line]) -> usize
+    ensures { λ r. ⌜ Wrote (now (table .entry)) 0 beginning (now (table .exit)) r ⌝ }
+{
+    let lines = [
+        Line::Operation(Operation::Word(ZERO, 0)),
+        Line::Operation(Operation::Word(ONE, 1)),
+        Line::Operation(Operation::Sub(mask(0), ZERO, ONE)),
+    ];
+    write_all(table, 0, &lines)
 }
 
 /// The operation is done on the side, and kept only under the mask: elsewhere the old word stays.
@@ -113,7 +125,10 @@ fn write_end(table: &mut [Line], at: usize, level: usize, part: Open) -> usize
         Open::Then => at,
         Open::Else => at,
         Open::Loop(counter, _) => {
-            let lines = [Line::End, Line::Operation(Operation::Copy(counter, saved(level + 1)))];
+            let lines = [
+                Line::End,
+                Line::Operation(Operation::Copy(counter, saved(level + 1))),
+            ];
             write_all(table, at, &lines)
         }
     }
@@ -136,7 +151,11 @@ fn write_clears(table: &mut [Line], at: usize, body: usize, level: usize) -> usi
     let mut next = at;
     for cleared in body..level + 1 {
         let mask = mask(cleared);
-        next = write_all(table, next, &[Line::Operation(Operation::And(mask, mask, RESULT))]);
+        next = write_all(
+            table,
+            next,
+            &[Line::Operation(Operation::And(mask, mask, RESULT))],
+        );
     }
     next
 }
@@ -146,12 +165,21 @@ fn write_break(table: &mut [Line], at: usize, level: usize, body: usize) -> usiz
     requires { ⌜ level ≤ 8 ⌝ ∗ ⌜ body ≤ level ⌝ }
     ensures { λ r. ⌜ Wrote (now (table .entry)) at (breaking level body) (now (table .exit)) r ⌝ }
 {
-    let next = write_all(table, at, &[Line::Operation(Operation::Not(RESULT, mask(level)))]);
+    let next = write_all(
+        table,
+        at,
+        &[Line::Operation(Operation::Not(RESULT, mask(level)))],
+    );
     write_clears(table, next, body, level)
 }
 
 /// Writes the lines that stand for one line of the rule.
-pub fn write_line<T: Copy>(table: &mut [Line], at: usize, stack: &Stack<Frame<T>>, line: &Line) -> usize
+pub fn write_line<T: Copy>(
+    table: &mut [Line],
+    at: usize,
+    stack: &Stack<Frame<T>>,
+    line: &Line,
+) -> usize
     ensures { λ r. ⌜ Wrote (now (table .entry)) at (written (opens (view (now (stack .entry) .items) (now (stack .entry) .depth))) (now (line .entry))) (now (table .exit)) r ⌝ }
 {
     let level = stack.len();

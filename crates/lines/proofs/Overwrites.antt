@@ -70,9 +70,9 @@ module _ {T : Type 0} where
       let long = length-append xs ys in
       let same = ap length (p .entries) ∙ length-overwrite t at xs in
       let later : overwrite u n ys ≡ overwrite u (at + length xs) ys = elim (cases-lt (at + length xs) (2 ^ 64)) [
-          inl k ↦ ap (λ (i : ℕ). overwrite u i ys) (omega (arith, p .onward))
+        | inl k ↦ ap (λ (i : ℕ). overwrite u i ys) (omega (arith, p .onward))
         | inr k ↦ overwrite-beyond u n ys (omega (arith, p .onward)) ∙ sym (overwrite-beyond u (at + length xs) ys (omega arith))
-        ] in
+      ] in
       record {
         entries = q .entries ∙ later ∙ ap (λ w. overwrite w (at + length xs) ys) (p .entries) ∙ sym (overwrite-append t at xs ys);
         onward = omega (arith, p .onward, q .onward);

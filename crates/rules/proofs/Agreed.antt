@@ -58,7 +58,7 @@ end-agrees at (open-is.Loop i n) k st c = (_, refl, refl)
 -- a loop's rounds are tested last, and in the pass before it opens
 loop-agrees : (at n : ℕ) (o : Open) (w : Walk) (deep long : Bool) → deep ≡ ltb (length (w .0)) 8 →
     Agrees (first (unless deep (fault.TooDeep at)) (unless long (fault.TooManyRounds at)))
-      (cond deep (cond long (opening at o w) (Err (fault.TooManyRounds at))) (Err (fault.TooDeep at))) (o ∷ opens (w .0))
+    (cond deep (cond long (opening at o w) (Err (fault.TooManyRounds at))) (Err (fault.TooDeep at))) (o ∷ opens (w .0))
 loop-agrees at n o w false long e = refl
 loop-agrees at n o w true false e = refl
 loop-agrees at n o w true true e =
@@ -77,7 +77,7 @@ agrees at st c (line.Loop i n) =
     let test = first (unless deep (fault.TooDeep at)) (unless (ltb n 1001) (fault.TooManyRounds at)) in
     first-test (under 64 i) (fault.FieldOffCard at) _ _ _
     (subst (λ k. Agrees (first (unless (ltb k 8) (fault.TooDeep at)) (unless (ltb n 1001) (fault.TooManyRounds at)))
-      (cond deep (cond (ltb n 1001) (opening at (open-is.Loop i n) (st, c)) (Err (fault.TooManyRounds at))) (Err (fault.TooDeep at))) (open-is.Loop i n ∷ opens st))
+    (cond deep (cond (ltb n 1001) (opening at (open-is.Loop i n) (st, c)) (Err (fault.TooManyRounds at))) (Err (fault.TooDeep at))) (open-is.Loop i n ∷ opens st))
     (sym (length-opens st)) (loop-agrees at n (open-is.Loop i n) (st, c) deep (ltb n 1001) refl))
 agrees at st c line.Break = last-test (ltb 0 (loopLevel (opens st))) (fault.BreakOutsideLoop at) (st, plus c 1 (length st - loopLevel (opens st) + 2))
 agrees at st c (line.Turn i n) = refl

@@ -13,6 +13,7 @@ cap-times (suc n) a = elim (cases-lt a 65536) [ inl h ↦ small h | inr h ↦ la
   where
     small : a < 65536 → capped (suc n * capped a) ≡ capped (suc n * a)
     small h = let e : capped a ≡ a = omega arith in ap (λ x. capped (suc n * x)) e
+
     large : 65536 ≤ a → capped (suc n * capped a) ≡ capped (suc n * a)
     large h =
         let e : capped a ≡ 65536 = omega arith in

@@ -49,6 +49,7 @@ closes n r = elim (cases-lt (3 + blockCost r 0 0) 65536) [ inl h ↦ cheap h | i
   where
     c : Costs
     c = plus start (plainCost r) (blockCost r 0 0)
+
     cheap : 3 + blockCost r 0 0 < 65536 → finish n ([], plus start (plainCost r) (blockCost r 0 0)) ≡ orFault (unless (ltb (3 + blockCost r 0 0) 65536) (fault.TooManySteps n)) (costsOf r)
     cheap h =
         let p = plain-below r 0 0 in
@@ -57,6 +58,7 @@ closes n r = elim (cases-lt (3 + blockCost r 0 0) 65536) [ inl h ↦ cheap h | i
         let t = lt-ltb (capped (3 + blockCost r 0 0)) 65536 (omega arith) in
         let u = lt-ltb (3 + blockCost r 0 0) 65536 h in
         cond-true _ _ _ t ∙ ap₂ (λ (a : ℕ) (b : ℕ). Ok (record { plain = a; balanced = b })) x y ∙ sym (ap (λ b. orFault (unless b (fault.TooManySteps n)) (costsOf r)) u)
+
     dear : 65536 ≤ 3 + blockCost r 0 0 → finish n ([], plus start (plainCost r) (blockCost r 0 0)) ≡ orFault (unless (ltb (3 + blockCost r 0 0) 65536) (fault.TooManySteps n)) (costsOf r)
     dear h =
         let t = le-ltb (capped (3 + blockCost r 0 0)) 65536 (omega arith) in
@@ -77,6 +79,7 @@ passes l = go (nestingFault 0 [] l) refl
   where
     rest : Option CheckFault
     rest = unless (ltb (balancedCost (ruleOf l)) 65536) (fault.TooManySteps (length l))
+
     go : (o : Option CheckFault) → nestingFault 0 [] l ≡ o → pass 0 ([], start) l ≡ orFault (first o (unless (ltb (balancedCost (ruleOf l)) 65536) (fault.TooManySteps (length l)))) (costsOf (ruleOf l))
     go (Some f) e = refuses l 0 [] start f e
     go None e =

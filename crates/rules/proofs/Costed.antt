@@ -30,7 +30,7 @@ use Rattle.rules.proofs.Caps.{cap-times}
 use Rattle.rules.proofs.Levels.{length-opens}
 
 -- how many lines a rule has
-pub size : Rule → ℕ
+unfoldable pub size : Rule → ℕ
 size done = 0
 size (op o r) = 1 + size r
 size (when a p q r) = 3 + size p + size q + size r
@@ -87,7 +87,6 @@ goes x at w v l e = ap (λ r. andThen r (λ n. pass (at + 1) n l)) e
 enters : (at : ℕ) (o : Open) (st : List (Frame Sums)) (c : Costs) → length st < 8 → opening at o (st, c) ≡ Ok (record { part = o; kept = record { before = c; first = free } } ∷ st, free)
 enters at o st c h = cond-true (ltb (length st) 8) _ _ (lt-ltb (length st) 8 h)
 
-
 pub costed : (r : Rule) (at : ℕ) (st : List (Frame Sums)) (c : Costs) (l : List Line) → Fits r (length st) (loopLevel (opens st)) → Low c →
     pass at (st, c) (flat r l) ≡ pass (at + size r) (st, plus c (plainCost r) (blockCost r (length st) (loopLevel (opens st)))) l
 unfolding flat size plainCost blockCost
@@ -115,7 +114,7 @@ costed (when a p q r) at st c l f low =
     let lq = flat q (line.End ∷ flat r l) in
     let low-free : Low free = record { plain = omega arith; balanced = omega arith } in
     let one : pass at (st, c) (line.If a ∷ flat p (line.Else ∷ lq)) ≡ pass (at + 1) (then-in ∷ st, free) (flat p (line.Else ∷ lq)) =
-        goes (line.If a) at (st, c) (then-in ∷ st, free) (flat p (line.Else ∷ lq)) (cond-true (under 64 a) _ _ (f .0) ∙ enters at open-is.Then st c (f .1)) in
+    goes (line.If a) at (st, c) (then-in ∷ st, free) (flat p (line.Else ∷ lq)) (cond-true (under 64 a) _ _ (f .0) ∙ enters at open-is.Then st c (f .1)) in
     let two = costed p (at + 1) (then-in ∷ st) free (line.Else ∷ lq) (f .2) low-free in
     let three = goes line.Else (at + 1 + size p) (then-in ∷ st, cp) (else-in ∷ st, free) lq refl in
     let four = costed q (at + 1 + size p + 1) (else-in ∷ st) free (line.End ∷ flat r l) (f .3) low-free in
@@ -135,11 +134,11 @@ costed (loop i n b r) at st c l f low =
     let rounds = lt-ltb n 1001 (f .2) in
     let deep = lt-ltb k 8 (f .1) in
     let opened : step at (st, c) (line.Loop i n) ≡ Ok (loop-in ∷ st, free) =
-        cond-true (under 64 i) _ _ (f .0) ∙ cond-true (ltb k 8) _ _ deep ∙ cond-true (ltb n 1001) _ _ rounds ∙ enters at (open-is.Loop i n) st c (f .1) in
+    cond-true (under 64 i) _ _ (f .0) ∙ cond-true (ltb k 8) _ _ deep ∙ cond-true (ltb n 1001) _ _ rounds ∙ enters at (open-is.Loop i n) st c (f .1) in
     let one = goes (line.Loop i n) at (st, c) (loop-in ∷ st, free) (flat b (line.End ∷ flat r l)) opened in
     let two : pass (at + 1) (loop-in ∷ st, free) (flat b (line.End ∷ flat r l)) ≡ pass (at + 1 + size b) (loop-in ∷ st, cb) (line.End ∷ flat r l) =
-        costed b (at + 1) (loop-in ∷ st) free (line.End ∷ flat r l) (subst (λ m. Fits b (suc k) (suc m)) (sym same) (f .3)) low-free
-        ∙ ap (λ m. pass (at + 1 + size b) (loop-in ∷ st, plus free (plainCost b) (blockCost b (suc k) (suc m))) (line.End ∷ flat r l)) same in
+    costed b (at + 1) (loop-in ∷ st) free (line.End ∷ flat r l) (subst (λ m. Fits b (suc k) (suc m)) (sym same) (f .3)) low-free
+    ∙ ap (λ m. pass (at + 1 + size b) (loop-in ∷ st, plus free (plainCost b) (blockCost b (suc k) (suc m))) (line.End ∷ flat r l)) same in
     let three = goes line.End (at + 1 + size b) (loop-in ∷ st, cb) (st, loopCosts n (loop-in .kept) cb) (flat r l) refl in
     let four = at-line _ _ st _ _ (flat r l) refl (loop-sum c free n (plainCost b) (blockCost b (suc k) (suc k))) in
     let five = costed r (at + 1 + size b + 1) st ci l (f .4) (plus-low c (1 + n * plainCost b) (4 + n * (blockCost b (suc k) (suc k) + 1))) in

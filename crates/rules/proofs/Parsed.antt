@@ -31,7 +31,7 @@ use Rattle.rules.proofs.Firsts.{none-both, none-holds, never}
 abbrev Parsed : List Open → List Line → Type 0
 Parsed [] l = (r : Rule) × (l ≡ flat r []) × Fits r 0 0
 Parsed (open-is.Then ∷ st) l =
-  (r : Rule) × (q : Rule) × (m : List Line) × (l ≡ flat r (line.Else ∷ flat q (line.End ∷ m))) × Fits r (suc (length st)) (loopLevel st) × Fits q (suc (length st)) (loopLevel st) × Parsed st m
+    (r : Rule) × (q : Rule) × (m : List Line) × (l ≡ flat r (line.Else ∷ flat q (line.End ∷ m))) × Fits r (suc (length st)) (loopLevel st) × Fits q (suc (length st)) (loopLevel st) × Parsed st m
 Parsed (open-is.Else ∷ st) l = (r : Rule) × (m : List Line) × (l ≡ flat r (line.End ∷ m)) × Fits r (suc (length st)) (loopLevel st) × Parsed st m
 Parsed (open-is.Loop i n ∷ st) l = (r : Rule) × (m : List Line) × (l ≡ flat r (line.End ∷ m)) × Fits r (suc (length st)) (suc (length st)) × Parsed st m
 
@@ -78,7 +78,7 @@ parsed (line.If a ∷ l) at st e =
     let p = r .0 in
     let q = r .1 in
     let whole = more (when a p q) (λ m. line.If a ∷ flat p (line.Else ∷ flat q (line.End ∷ m))) (λ d m. refl) st (r .2)
-      (λ d f. (c .0, c .1, r .4, r .5, f)) (r .6) in
+    (λ d f. (c .0, c .1, r .4, r .5, f)) (r .6) in
     rw (r .3) whole
 parsed (line.Loop i n ∷ l) at st e =
     let b = split (line.Loop i n) l at st e in
@@ -86,7 +86,7 @@ parsed (line.Loop i n ∷ l) at st e =
     let r = parsed l (at + 1) (open-is.Loop i n ∷ st) (b .1) in
     let body = r .0 in
     let whole = more (loop i n body) (λ m. line.Loop i n ∷ flat body (line.End ∷ m)) (λ x m. refl) st (r .1)
-      (λ x f. (c .0, c .1, c .2, r .3, f)) (r .4) in
+    (λ x f. (c .0, c .1, c .2, r .3, f)) (r .4) in
     rw (r .2) whole
 parsed (line.Else ∷ l) at [] e = never _ (split line.Else l at [] e .0)
 parsed (line.Else ∷ l) at (open-is.Then ∷ st) e =
@@ -134,7 +134,7 @@ blocks-flat (when a p q r) l =
     let hr = blocks-flat r l in
     let hq : blocks (flat q (line.End ∷ flat r l)) ≡ before q (blocks (flat r l)) = blocks-flat q (line.End ∷ flat r l) ∙ ap (λ x. before x (blocks (flat r l))) (joined-done q) in
     let hp : blocks (flat p (line.Else ∷ flat q (line.End ∷ flat r l))) ≡ before p (blocks (flat q (line.End ∷ flat r l))) =
-        blocks-flat p (line.Else ∷ flat q (line.End ∷ flat r l)) ∙ ap (λ x. before x (blocks (flat q (line.End ∷ flat r l)))) (joined-done p) in
+    blocks-flat p (line.Else ∷ flat q (line.End ∷ flat r l)) ∙ ap (λ x. before x (blocks (flat q (line.End ∷ flat r l)))) (joined-done p) in
     let all = hp ∙ ap (before p) hq in
     ap (λ x. replace (when a (front x) (front (behind done x)) (front (behind done (behind done x)))) (behind done (behind done x))) all
     ∙ ap (λ x. replace (when a p q (front x)) x) hr

@@ -39,6 +39,7 @@ peeked st i x e = elim (cases-lt i (length st)) [ inl h ↦ within h | inr h ↦
   where
     within : i < length st → drop i st ≡ x ∷ drop (i + 1) st
     within h = let m = drop-more st i x h in let t = ap top m in let same : getD st i x ≡ x = cc in m ∙ ap (λ y. y ∷ drop (i + 1) st) same
+
     past : length st ≤ i → drop i st ≡ x ∷ drop (i + 1) st
     past h = let m = ap top (drop-all i st h) in absurd (let z : _≡_ {A = ℕ} 0 1 = cc in omega arith)
 

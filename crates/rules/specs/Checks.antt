@@ -43,7 +43,7 @@ lineFault at st (line.If a) = first (unless (under 64 a) (fault.FieldOffCard at)
 lineFault at st line.Else = elseFault at st
 lineFault at st line.End = endFault at st
 lineFault at st (line.Loop i n) =
-  first (unless (under 64 i) (fault.FieldOffCard at))
+    first (unless (under 64 i) (fault.FieldOffCard at))
     (first (unless (ltb (length st) 8) (fault.TooDeep at)) (unless (ltb n 1001) (fault.TooManyRounds at)))
 lineFault at st line.Break = unless (ltb 0 (loopLevel st)) (fault.BreakOutsideLoop at)
 lineFault at st (line.Turn i n) = Some (fault.TurnInRule at)
@@ -67,9 +67,9 @@ nestingFault at st (x ∷ xs) = first (lineFault at st x) (nestingFault (at + 1)
 -- The first fault of a table: too many lines before all others, then those of its lines, last too many steps.
 abbrev pub firstFault : List Line → Option CheckFault
 firstFault lines =
-  first (unless (ltb (length lines) 257) (fault.TooManyLines (length lines)))
+    first (unless (ltb (length lines) 257) (fault.TooManyLines (length lines)))
     (first (nestingFault 0 [] lines)
-      (unless (ltb (balancedCost (ruleOf lines)) 65536) (fault.TooManySteps (length lines))))
+    (unless (ltb (balancedCost (ruleOf lines)) 65536) (fault.TooManySteps (length lines))))
 
 -- A checked table is one with no fault.
 pub record Checked (lines : List Line) : Type 0 where

@@ -71,8 +71,8 @@ closing at (f ∷ st, c) = endOf at (f .part) (f .kept) st c
 -- A `break` clears the masks from the loop's level up to its own.
 abbrev pub breaking : ℕ → Walk → Result Walk CheckFault
 breaking at w =
-  let j = loopLevel (opens (w .0)) in
-  cond (ltb 0 j) (Ok (w .0, plus (w .1) 1 (length (w .0) - j + 2))) (Err (fault.BreakOutsideLoop at))
+    let j = loopLevel (opens (w .0)) in
+    cond (ltb 0 j) (Ok (w .0, plus (w .1) 1 (length (w .0) - j + 2))) (Err (fault.BreakOutsideLoop at))
 
 -- One line of the pass.
 abbrev pub step : ℕ → Walk → Line → Result Walk CheckFault
@@ -81,7 +81,7 @@ step at w (line.If a) = cond (under 64 a) (opening at open-is.Then w) (Err (faul
 step at w line.Else = halving at w
 step at w line.End = closing at w
 step at w (line.Loop i n) =
-  cond (under 64 i) (cond (ltb (length (w .0)) 8) (cond (ltb n 1001) (opening at (open-is.Loop i n) w) (Err (fault.TooManyRounds at))) (Err (fault.TooDeep at))) (Err (fault.FieldOffCard at))
+    cond (under 64 i) (cond (ltb (length (w .0)) 8) (cond (ltb n 1001) (opening at (open-is.Loop i n) w) (Err (fault.TooManyRounds at))) (Err (fault.TooDeep at))) (Err (fault.FieldOffCard at))
 step at w line.Break = breaking at w
 step at w (line.Turn i n) = Err (fault.TurnInRule at)
 

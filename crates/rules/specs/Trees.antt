@@ -38,14 +38,14 @@ blocks (line.Break ∷ l) = let bs = blocks l in replace (break (front bs)) bs
 blocks (line.Else ∷ l) = before done (blocks l)
 blocks (line.End ∷ l) = before done (blocks l)
 blocks (line.If a ∷ l) =
-  let bs = blocks l in
-  let cs = behind done bs in
-  let ds = behind done cs in
-  replace (when a (front bs) (front cs) (front ds)) ds
+    let bs = blocks l in
+    let cs = behind done bs in
+    let ds = behind done cs in
+    replace (when a (front bs) (front cs) (front ds)) ds
 blocks (line.Loop i n ∷ l) =
-  let bs = blocks l in
-  let cs = behind done bs in
-  replace (loop i n (front bs) (front cs)) cs
+    let bs = blocks l in
+    let cs = behind done bs in
+    replace (loop i n (front bs) (front cs)) cs
 blocks (line.Turn i n ∷ l) = blocks l
 
 -- The rule that a table stands for, if it stands for one.

@@ -42,24 +42,45 @@ pub struct Sums {
     first: Costs,
 }
 
-const FREE: Costs = Costs { plain: 0, balanced: 0 };
+const FREE: Costs = Costs {
+    plain: 0,
+    balanced: 0,
+};
 
 /// Before the first line: a balanced rule begins with three lines of its own.
-const START: Costs = Costs { plain: 0, balanced: 3 };
+const START: Costs = Costs {
+    plain: 0,
+    balanced: 3,
+};
 
 impl Costs {
     fn plus(self, plain: u32, balanced: u32) -> Costs
         ensures { λ r. ⌜ r ≡ plus self plain balanced ⌝ }
     {
-        Costs { plain: capped_sum(self.plain, plain), balanced: capped_sum(self.balanced, balanced) }
+        Costs {
+            plain: capped_sum(self.plain, plain),
+            balanced: capped_sum(self.balanced, balanced),
+        }
     }
 }
 
-fn open_line(stack: &mut Stack<Frame<Sums>>, costs: Costs, at: usize, part: Open) -> Result<Costs, CheckFault>
+fn open_line(
+    stack: &mut Stack<Frame<Sums>>,
+    costs: Costs,
+    at: usize,
+    part: Open,
+) -> Result<Costs, CheckFault>
     ensures { λ r. ⌜ opening at part (view (now (stack .entry) .items) (now (stack .entry) .depth), costs) ≡ standing r (view (now (stack .exit) .items) (now (stack .exit) .depth)) ⌝ }
 {
-    let kept = Sums { before: costs, first: FREE };
-    if stack.push(Frame { part, kept }) { Ok(FREE) } else { Err(CheckFault::TooDeep(at)) }
+    let kept = Sums {
+        before: costs,
+        first: FREE,
+    };
+    if stack.push(Frame { part, kept }) {
+        Ok(FREE)
+    } else {
+        Err(CheckFault::TooDeep(at))
+    }
 }
 
 fn halve_line(stack: &mut Stack<Frame<Sums>>, costs: Costs, at: usize) -> Result<Costs, CheckFault>
@@ -70,8 +91,14 @@ fn halve_line(stack: &mut Stack<Frame<Sums>>, costs: Costs, at: usize) -> Result
     };
     match frame.part {
         Open::Then => {
-            let kept = Sums { before: frame.kept.before, first: costs };
-            let _ = stack.push(Frame { part: Open::Else, kept });
+            let kept = Sums {
+                before: frame.kept.before,
+                first: costs,
+            };
+            let _ = stack.push(Frame {
+                part: Open::Else,
+                kept,
+            });
             Ok(FREE)
         }
         Open::Else => Err(CheckFault::SecondElse(at)),
@@ -84,14 +111,19 @@ fn if_costs(sums: Sums, second: Costs) -> Costs
     ensures { λ r. ⌜ r ≡ ifCosts sums second ⌝ }
 {
     let longer = capped_sum(1, sums.first.plain.max(second.plain));
-    sums.before.plus(longer, capped_sum(5, sums.first.balanced)).plus(0, second.balanced)
+    sums.before
+        .plus(longer, capped_sum(5, sums.first.balanced))
+        .plus(0, second.balanced)
 }
 
 /// The costs of a loop whose body costs so much, with what was before it.
 fn loop_costs(rounds: u32, sums: Sums, body: Costs) -> Costs
     ensures { λ r. ⌜ r ≡ loopCosts rounds sums body ⌝ }
 {
-    sums.before.plus(1, 4).plus(capped_product(rounds, body.plain), capped_product(rounds, capped_sum(body.balanced, 1)))
+    sums.before.plus(1, 4).plus(
+        capped_product(rounds, body.plain),
+        capped_product(rounds, capped_sum(body.balanced, 1)),
+    )
 }
 
 fn close_line(stack: &mut Stack<Frame<Sums>>, costs: Costs, at: usize) -> Result<Costs, CheckFault>
@@ -119,7 +151,12 @@ fn break_costs(stack: &Stack<Frame<Sums>>, costs: Costs, at: usize) -> Result<Co
     }
 }
 
-fn check_line(stack: &mut Stack<Frame<Sums>>, costs: Costs, at: usize, line: &Line) -> Result<Costs, CheckFault>
+fn check_line(
+    stack: &mut Stack<Frame<Sums>>,
+    costs: Costs,
+    at: usize,
+    line: &Line,
+) -> Result<Costs, CheckFault>
     ensures { λ r. ⌜ step at (view (now (stack .entry) .items) (now (stack .entry) .depth), costs) (now (line .entry)) ≡ standing r (view (now (stack .exit) .items) (now (stack .exit) .depth)) ⌝ }
 {
     match line {
@@ -170,7 +207,13 @@ fn finish(stack: &Stack<Frame<Sums>>, costs: Costs, count: usize) -> Result<Cost
 fn check_lines(lines: &[Line]) -> Result<Costs, CheckFault>
     ensures { λ r. ⌜ r ≡ pass 0 ([], start) (now (lines .entry)) ⌝ }
 {
-    let mut stack = Stack::new(Frame { part: Open::Then, kept: Sums { before: FREE, first: FREE } });
+    let mut stack = Stack::new(Frame {
+        part: Open::Then,
+        kept: Sums {
+            before: FREE,
+            first: FREE,
+        },
+    });
     let mut costs = START;
     for (at, line) in lines.iter().enumerate() {
         costs = check_line(&mut stack, costs, at, line)?;

@@ -23,7 +23,10 @@ impl<T: Copy> Stack<T> {
     pub fn new(filler: T) -> Stack<T>
         ensures { λ r. ⌜ view (r .items) (r .depth) ≡ [] ⌝ }
     {
-        Stack { items: [filler; DEPTH], depth: 0 }
+        Stack {
+            items: [filler; DEPTH],
+            depth: 0,
+        }
     }
 
     /// How many items there are.
@@ -38,7 +41,11 @@ impl<T: Copy> Stack<T> {
     pub fn peek(&self, under: usize) -> Option<T>
         ensures { λ r. ⌜ r ≡ top (drop under (view (now (self .entry) .items) (now (self .entry) .depth))) ⌝ }
     {
-        if under < self.depth { Some(self.items[self.depth - 1 - under]) } else { None }
+        if under < self.depth {
+            Some(self.items[self.depth - 1 - under])
+        } else {
+            None
+        }
     }
 
     /// Puts an item on top, and says whether there was room.

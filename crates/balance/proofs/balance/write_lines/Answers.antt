@@ -21,8 +21,7 @@ use Rattle.balance.proofs.balance.write_lines.Needs as need
 
 pub loop-line-holds : need.loop-line-holds
 loop-line-holds c =
-    let e = ap opens (c .new-stack .ensures) in
-    (
+    let e = ap opens (c .new-stack .ensures) in (
       ap (λ os. nestingFault 0 os (c .args .lines .now)) e ∙ c .pre,
       ([], wrote-none (c .args .table .now) (c .args .at) (omega arith), ap (λ os. pass os (c .args .lines .now)) e),
     )
@@ -46,15 +45,14 @@ loop-line-again c =
     let rest = drop (i + 1) xs in
     let here = drop-more xs i line.End (omega arith) in
     let inv = c .loop-line .inv in
-    let front = inv .1 .0 in
-    (
+    let front = inv .1 .0 in (
       ap (λ o. nestingFault (i + 1) o rest) (c .advance .ensures) ∙ nested-rest x rest i os (ap (nestingFault i os) (sym here) ∙ inv .0),
       (
         front ++ written os x,
         wrote-more _ _ _ _ _ _ _ _ (omega arith) (inv .1 .1) (c .write-line-next .ensures),
         append-assoc front (written os x) (pass next rest)
-        ∙ ap (λ o. front ++ (written os x ++ pass o rest)) (c .advance .ensures)
-        ∙ ap (λ l. front ++ l) (sym (pass-more os x rest) ∙ ap (pass os) (sym here)) ∙ inv .1 .2,
+            ∙ ap (λ o. front ++ (written os x ++ pass o rest)) (c .advance .ensures)
+            ∙ ap (λ l. front ++ l) (sym (pass-more os x rest) ∙ ap (pass os) (sym here)) ∙ inv .1 .2,
       ),
     )
 

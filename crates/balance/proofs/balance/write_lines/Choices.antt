@@ -12,6 +12,6 @@ use Rattle.balance.proofs.balance.write_lines.Given as given
 
 abbrev pub Inv-loop-line : given.InvT-loop-line
 Inv-loop-line l =
-  (nestingFault (l .line-index) (opens (view (l .stack .items) (l .stack .depth))) (drop (l .line-index) (l .lines)) ≡ None)
-  × ((front : List Line) × Wrote (l .entry .table) (l .at) front (l .table) (l .next)
+    (nestingFault (l .line-index) (opens (view (l .stack .items) (l .stack .depth))) (drop (l .line-index) (l .lines)) ≡ None)
+    × ((front : List Line) × Wrote (l .entry .table) (l .at) front (l .table) (l .next)
     × (front ++ pass (opens (view (l .stack .items) (l .stack .depth))) (drop (l .line-index) (l .lines)) ≡ pass [] (l .lines)))

@@ -25,8 +25,8 @@ loop-cleared-again c =
     let more : i + 1 - body ≡ i - body + 1 = omega arith in
     let line : List Line = doing (op.And (c .mask-mask .result) (c .mask-mask .result) (f 66)) ∷ [] in
     let e : clearing body (i - body) ++ line ≡ clearing body (i + 1 - body) =
-        ap (λ x. clearing body (i - body) ++ (doing (op.And x x (f 66)) ∷ [])) (c .mask-mask .ensures ∙ ap mask (sym there))
-        ∙ sym (ap (clearing body) more ∙ clearing-more body (i - body)) in
+    ap (λ x. clearing body (i - body) ++ (doing (op.And x x (f 66)) ∷ [])) (c .mask-mask .ensures ∙ ap mask (sym there))
+    ∙ sym (ap (clearing body) more ∙ clearing-more body (i - body)) in
     wrote-same _ _ _ _ _ _ e (wrote-more _ _ _ _ _ _ _ line (omega arith) (c .loop-cleared .inv) (c .write-all-next .ensures))
 
 pub returns : need.returns

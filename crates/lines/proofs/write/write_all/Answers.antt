@@ -20,18 +20,17 @@ loop-item-again g c =
     let x = c .item-item .result in
     let read = c .item-item .is in
     let stored : c .if-next-slice .slice ≡ set slice at x = elim (c .if-next-slice .came) [
-        then-next-slice w ↦ w .slice-is ∙ ap (λ n. set slice n x) (omega (arith, c .loop-item .inv .0, w .if-next-slice .taken))
+      | then-next-slice w ↦ w .slice-is ∙ ap (λ n. set slice n x) (omega (arith, c .loop-item .inv .0, w .if-next-slice .taken))
       | else-next-slice w ↦ w .slice-is ∙ sym (overwrite-past slice at x (omega (arith, c .loop-item .inv .0, w .if-next-slice .left)))
-      ] in
+    ] in
     let more = overwrite-more slice at items (c .loop-item .item-index) x (omega arith) in
     let here : at + 1 ≡ c .args .at + (c .loop-item .item-index + 1) = omega arith in
-    let rest = drop (c .loop-item .item-index + 1) items in
-    (
+    let rest = drop (c .loop-item .item-index + 1) items in (
       omega (arith, c .loop-item .inv .0),
       ap (λ s. overwrite s (c .args .at + (c .loop-item .item-index + 1)) rest) stored
-      ∙ ap (λ n. overwrite (set slice at x) n rest) (sym here)
-      ∙ ap (λ y. overwrite (set slice at y) (at + 1) rest) read
-      ∙ sym more ∙ c .loop-item .inv .1,
+          ∙ ap (λ n. overwrite (set slice at x) n rest) (sym here)
+          ∙ ap (λ y. overwrite (set slice at y) (at + 1) rest) read
+          ∙ sym more ∙ c .loop-item .inv .1,
     )
 
 pub returns : need.returns
