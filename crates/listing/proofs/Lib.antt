@@ -1,0 +1,7 @@
+pub mod Writes
+pub mod Numbers
+pub mod Words
+pub mod Tables
+pub mod Numerals
+pub mod Alphabet
+pub mod Readers

@@ -1,0 +1,4 @@
+//! From a rule text to a balanced table in one call.
+
+pub mod fault;
+pub mod prepare;
