@@ -4,7 +4,7 @@ use mathlib.Core.List.{List, _++_}
 use mathlib.Core.Bool.{cond}
 use Prim.Native.Nat.{ℕ, _≤_}
 use lib.Dec.{ltb}
-use lib.ListN.{length, drop}
+use lib.ListN.{length, take, drop}
 use Rattle.std.specs.declared.result.Result.{Result}
 use Rattle.std.specs.declared.result.Result.the-variants.{Ok, Err}
 use Rattle.lines.specs.declared.line.Line.{Line}
@@ -27,6 +27,11 @@ balanceAnswer out room = cond (ltb room (length out)) (Err TableTooShort) (Ok (l
 -- The balanced lines in the first entries, the later ones as they were; all as it was where there is too little room.
 abbrev pub tableAfter : List Line → List Line → List Line
 tableAfter out table = cond (ltb (length table) (length out)) table (out ++ drop (length out) table)
+
+-- What was written: the first n entries of the table, which are admitted.
+pub record Written (n : ℕ) (table : List Line) : Type 0 where
+  pub within : n ≤ length table
+  pub admitted : Admitted (take n table)
 
 -- The balanced lines of a checked rule are always admitted, at most 2,400, and take the steps that the rule's cost says.
 pub record AlwaysAdmitted (lines : List Line) : Type 0 where

@@ -5,11 +5,10 @@ ghost use mathlib.Core.List.{[]};
 ghost use Rattle.lines.specs.Overwrites.{Wrote};
 ghost use Rattle.rules.specs.Checks.{after, nestingFault};
 ghost use mathlib.Core.List.{_++_};
-ghost use lib.ListN.{length, take};
+ghost use lib.ListN.{length};
 ghost use Rattle.std.specs.Vec.{made};
 ghost use Rattle.rules.specs.Checks.{Checked};
-ghost use Rattle.balance.specs.Admission.{Admitted};
-ghost use Rattle.balance.specs.Balancing.{balancedLines, balanceAnswer, tableAfter, AlwaysAdmitted};
+ghost use Rattle.balance.specs.Balancing.{balancedLines, balanceAnswer, tableAfter, Written, AlwaysAdmitted};
 ghost use Rattle.balance.specs.Writing.{pass, beginning};
 ghost use Rattle.std.specs.declared.option.Option.the-variants.{None};
 ghost use Rattle.balance.specs.Nested.{Nested};
@@ -86,7 +85,7 @@ pub fn balance(lines: &[Line], table: &mut [Line]) -> Result<usize, BalanceFault
     requires { ⌜ Checked (now lines) ⌝ }
     ensures answer { λ r. ⌜ r ≡ balanceAnswer (balancedLines (now (lines .entry))) (length (now (table .entry))) ⌝ }
     ensures table { λ _. ⌜ now (table .exit) ≡ tableAfter (balancedLines (now (lines .entry))) (now (table .entry)) ⌝ }
-    ensures admitted { λ r. ⌜ made r (λ n. Admitted (take n (now (table .exit)))) ⌝ }
+    ensures written { λ r. ⌜ made r (λ n. Written n (now (table .exit))) ⌝ }
     ensures always { λ _. ⌜ AlwaysAdmitted (now (lines .entry)) ⌝ }
 {
     // Into a table of no entries the lines are only counted.

@@ -1,6 +1,6 @@
 -- What preparing a rule answers, and what it leaves in the two lent tables.
 use mathlib.Core.List.{List}
-use Prim.Native.Nat.{ℕ}
+use Prim.Native.Nat.{ℕ, _≤_}
 use lib.ListN.{length, take}
 use Rattle.std.specs.declared.result.Result.{Result}
 use Rattle.std.specs.declared.result.Result.the-variants.{Ok, Err}
@@ -8,8 +8,7 @@ use Rattle.lines.specs.declared.line.Line.{Line}
 use Rattle.rules.specs.declared.check.Costs.{Costs}
 use Rattle.rules.specs.declared.fault.CheckFault.{CheckFault}
 use Rattle.rules.specs.Checks.{Checked, checked}
-use Rattle.balance.specs.Admission.{Admitted}
-use Rattle.balance.specs.Balancing.{balancedLines, balanceAnswer, tableAfter}
+use Rattle.balance.specs.Balancing.{balancedLines, balanceAnswer, tableAfter, Written}
 use Rattle.text.specs.declared.fault.ReadFault.{ReadFault}
 use Rattle.text.specs.Reading.{Reading, reading, answer}
 use Rattle.preparation.specs.declared.fault.PrepareFault.{PrepareFault}
@@ -52,5 +51,6 @@ secondTable text entries table = let r = reading text entries in readAfter (answ
 
 -- What was prepared stands in front of the two tables, the rule checked and its balanced lines admitted.
 pub record Ready (p : Prepared) (rule table : List Line) : Type 0 where
+  pub within : p .«rule_lines» ≤ length rule
   pub checked : Checked (take (p .«rule_lines») rule)
-  pub admitted : Admitted (take (p .«balanced_lines») table)
+  pub written : Written (p .«balanced_lines») table

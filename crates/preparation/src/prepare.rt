@@ -1,7 +1,7 @@
 ghost use mathlib.Core.Path.{_≡_};
-ghost use lib.ListN.{length, take};
+ghost use lib.ListN.{length};
 ghost use Rattle.rules.specs.Checks.{Checked, checked};
-ghost use Rattle.balance.specs.Admission.{Admitted};
+ghost use Rattle.balance.specs.Balancing.{Written};
 ghost use Rattle.std.specs.Vec.{made};
 ghost use Rattle.text.specs.Reading.{reading, filled};
 ghost use Rattle.preparation.specs.Preparing.{balancing, checkedAfter, preparing, secondTable, Ready};
@@ -29,7 +29,7 @@ pub struct Prepared {
 fn check_and_balance(lines: &[Line], table: &mut [Line]) -> Result<(Costs, usize), PrepareFault>
     ensures answer { λ r. ⌜ r ≡ balancing (now (lines .entry)) (length (now (table .entry))) ⌝ }
     ensures table { λ _. ⌜ now (table .exit) ≡ checkedAfter (checked (now (lines .entry))) (now (lines .entry)) (now (table .entry)) ⌝ }
-    ensures ready { λ r. ⌜ made r (λ p. Checked (now (lines .entry)) × Admitted (take (p .1) (now (table .exit)))) ⌝ }
+    ensures ready { λ r. ⌜ made r (λ p. Checked (now (lines .entry)) × Written (p .1) (now (table .exit))) ⌝ }
 {
     let costs = check(lines)?;
     let balanced_lines = balance(lines, table)?;

@@ -18,7 +18,7 @@ returns-then-needed-table c =
     let out = balancedLines lines in
     let n = number-of lines _ _ _ (c .pre) (c .write-rule-needed .ensures) in
     let h : length table < length out = omega arith in
-    record { answer = refused out table h; table = refused-table out table h; admitted = tt; always = always lines (c .pre) }
+    record { answer = refused out table h; table = refused-table out table h; written = tt; always = always lines (c .pre) }
 
 pub returns : need.returns
 returns c =
@@ -32,6 +32,9 @@ returns c =
     record {
       answer = ap Ok m ∙ done out table h;
       table = left ∙ done-table out table h;
-      admitted = subst (λ (l : List Line). Admitted l) (sym (ap (λ (k : ℕ). take k (c .write-rule .last .table)) m ∙ ap (take (length out)) left ∙ done-front out table h)) (always lines (c .pre) .admitted);
+      written = record {
+        within = omega (arith, c .write-rule .kept .table);
+        admitted = subst (λ (l : List Line). Admitted l) (sym (ap (λ (k : ℕ). take k (c .write-rule .last .table)) m ∙ ap (take (length out)) left ∙ done-front out table h)) (always lines (c .pre) .admitted);
+      };
       always = always lines (c .pre);
     }

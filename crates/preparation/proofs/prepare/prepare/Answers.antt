@@ -52,5 +52,5 @@ returns c =
       answer = sym answer;
       rule = left;
       table = c .check-and-balance .ensures .table ∙ second-after r n before after ok left kept _ same room (c .args .table .now);
-      ready = record { checked = subst (λ (l : List Line). Checked l) (same ∙ sym front) (ready .0); admitted = ready .1 };
+      ready = record { within = read-within r n before after ok left kept; checked = subst (λ (l : List Line). Checked l) (same ∙ sym front) (ready .0); written = ready .1 };
     }
