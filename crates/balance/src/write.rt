@@ -49,7 +49,7 @@ fn saved(level: usize) -> Field
 }
 
 /// The masks of level 0 count everywhere.
-pub fn write_beginning(table: &mut [Line]) -> usize
+pub(crate) fn write_beginning(table: &mut [Line]) -> usize
     ensures { λ r. ⌜ Wrote (now (table .entry)) 0 beginning (now (table .exit)) r ⌝ }
 {
     let lines = [
@@ -174,7 +174,7 @@ fn write_break(table: &mut [Line], at: usize, level: usize, body: usize) -> usiz
 }
 
 /// Writes the lines that stand for one line of the rule.
-pub fn write_line<T: Copy>(
+pub(crate) fn write_line<T: Copy>(
     table: &mut [Line],
     at: usize,
     stack: &Stack<Frame<T>>,

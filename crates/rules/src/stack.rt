@@ -34,7 +34,8 @@ impl<T: Copy> Stack<T> {
         ensures few { λ r. ⌜ r ≤ 8 ⌝ }
         ensures count { λ r. ⌜ r ≡ length (view (now (self .entry) .items) (now (self .entry) .depth)) ⌝ }
     {
-        self.depth
+        let Stack { depth, .. } = self;
+        *depth
     }
 
     /// The item so many places below the top.

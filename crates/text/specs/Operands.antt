@@ -61,6 +61,10 @@ oneNumber n ms = andThen (numberFirst n ms) (λ k. andThen (noMore n (restOf ms)
 abbrev pub fieldAndNumber : ℕ → List Meaning → Result (Field × ℕ) ReadFault
 fieldAndNumber n ms = andThen (fieldFirst n ms) (λ d. andThen (oneNumber n (restOf ms)) (λ k. Ok (d, k)))
 
+-- A line whose line word stands alone.
+abbrev pub alone : ℕ → Line → List Meaning → Result Line ReadFault
+alone n x ms = andThen (noMore n ms) (λ _. Ok x)
+
 -- The line of a line word and the operands after it.
 abbrev pub lineOf : ℕ → Keyword → List Meaning → Result Line ReadFault
 lineOf n key.Word ms = andThen (fieldAndNumber n ms) (λ p. Ok (line.Operation (op.Word (p .0) (p .1))))
@@ -68,10 +72,10 @@ lineOf n key.Copy ms = andThen (twoFields n ms) (λ p. Ok (line.Operation (op.Co
 lineOf n key.Not ms = andThen (twoFields n ms) (λ p. Ok (line.Operation (op.Not (p .0) (p .1))))
 lineOf n (key.Binary k) ms = andThen (threeFields n ms) (λ p. Ok (line.Operation (applied k (p .0) (p .1) (p .2))))
 lineOf n key.If ms = andThen (oneField n ms) (λ a. Ok (line.If a))
-lineOf n key.Else ms = andThen (noMore n ms) (λ _. Ok line.Else)
-lineOf n key.End ms = andThen (noMore n ms) (λ _. Ok line.End)
+lineOf n key.Else ms = alone n line.Else ms
+lineOf n key.End ms = alone n line.End ms
 lineOf n key.Loop ms = andThen (fieldAndNumber n ms) (λ p. Ok (line.Loop (p .0) (p .1)))
-lineOf n key.Break ms = andThen (noMore n ms) (λ _. Ok line.Break)
+lineOf n key.Break ms = alone n line.Break ms
 lineOf n key.Turn ms = andThen (fieldAndNumber n ms) (λ p. Ok (line.Turn (p .0) (p .1)))
 
 -- The line that the tokens of a text line write, the first of which has to be a line word. Without tokens there is none.

@@ -45,11 +45,12 @@ readLines room n (l ∷ ls) = entered room n (lineRead n (meanings (tokens 0 l))
 abbrev pub reading : List ℕ → ℕ → Reading
 reading text entries = cond (ltb 65536 (length text)) (refused fault.TextTooLong) (readLines (min entries 2400) 1 (textLines text))
 
--- The answer: how many lines were read, or the fault.
+-- The fault, or else a count.
 abbrev pub answered : Option ReadFault → ℕ → Result ℕ ReadFault
 answered None n = Ok n
 answered (Some e) n = Err e
 
+-- The answer: the fault, or how many lines were read.
 abbrev pub answer : Reading → Result ℕ ReadFault
 answer r = answered (r .fault) (length (r .lines))
 
@@ -62,6 +63,6 @@ abbrev pub tokenLines : ℕ → List (List ℕ) → List ℕ
 tokenLines n [] = []
 tokenLines n (l ∷ ls) = cond (someToken (tokens 0 l)) (n ∷ tokenLines (n + 1) ls) (tokenLines (n + 1) ls)
 
--- The number of the text line that a table line is written by, both counted by all lines with a token, the table line from 0.
+-- The number of the text line that writes table line k, counted from 0: each text line with a token writes one.
 abbrev pub writtenBy : List ℕ → ℕ → Option ℕ
 writtenBy text k = nth (tokenLines 1 (textLines text)) k

@@ -2,8 +2,8 @@
 
 pub mod fault;
 pub mod keyword;
+mod line_reader;
 mod numeral;
-mod operands;
 pub mod reader;
 mod scan;
 pub mod table;

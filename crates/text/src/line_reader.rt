@@ -1,5 +1,7 @@
+//! The part of the reader that makes a line of the tokens of a text line. `line` is the number of the text line, for the faults.
+
 ghost use mathlib.Core.Path.{_≡_};
-ghost use Rattle.text.specs.Operands.{fieldFirst, numberFirst, noMore, oneField, twoFields, threeFields, oneNumber, fieldAndNumber, lineOf, lineRead, left, SameLine};
+ghost use Rattle.text.specs.Operands.{fieldFirst, numberFirst, noMore, oneField, twoFields, threeFields, oneNumber, fieldAndNumber, alone, lineOf, lineRead, left, SameLine};
 ghost use Rattle.text.specs.Tokens.{restOf};
 use crate::fault::ReadFault;
 use crate::keyword::Keyword;
@@ -90,6 +92,15 @@ impl<'a> Reader<'a> {
         Ok((d, n))
     }
 
+    /// The line, if no operand follows its line word.
+    fn alone(&mut self, entry: Line, line: usize) -> Result<Line, ReadFault>
+        ensures value { λ r. ⌜ r ≡ alone line entry (left (now (self .entry))) ⌝ }
+        ensures same { λ _. ⌜ SameLine (now (self .entry)) (now (self .exit)) ⌝ }
+    {
+        self.no_more(line)?;
+        Ok(entry)
+    }
+
     /// The line of a line word and the operands that follow it.
     fn line_of(&mut self, keyword: Keyword, line: usize) -> Result<Line, ReadFault>
         ensures value { λ r. ⌜ r ≡ lineOf line keyword (left (now (self .entry))) ⌝ }
@@ -113,22 +124,13 @@ impl<'a> Reader<'a> {
                 Ok(Line::Operation(binary.apply(d, a, b)))
             }
             Keyword::If => Ok(Line::If(self.one_field(line)?)),
-            Keyword::Else => {
-                self.no_more(line)?;
-                Ok(Line::Else)
-            }
-            Keyword::End => {
-                self.no_more(line)?;
-                Ok(Line::End)
-            }
+            Keyword::Else => self.alone(Line::Else, line),
+            Keyword::End => self.alone(Line::End, line),
             Keyword::Loop => {
                 let (i, n) = self.field_and_number(line)?;
                 Ok(Line::Loop(i, n))
             }
-            Keyword::Break => {
-                self.no_more(line)?;
-                Ok(Line::Break)
-            }
+            Keyword::Break => self.alone(Line::Break, line),
             Keyword::Turn => {
                 let (i, n) = self.field_and_number(line)?;
                 Ok(Line::Turn(i, n))
