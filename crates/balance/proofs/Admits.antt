@@ -17,10 +17,10 @@ use Rattle.std.specs.declared.result.Result.the-variants.{Ok, Err}
 use Rattle.lines.specs.Operations.{within, under}
 use Rattle.lines.specs.declared.line.Line.{Line}
 use Rattle.lines.specs.declared.line.Line.the-variants as line
-use Rattle.rules.specs.Capped.{capped}
-use Rattle.rules.specs.Conditions.{unless, first, orFault, andThen}
-use Rattle.rules.proofs.Caps.{cap-times}
-use Rattle.rules.proofs.Firsts.{none-both, none-holds}
+use Rattle.nesting.specs.Capped.{capped}
+use Rattle.nesting.specs.Conditions.{unless, first, orFault, andThen}
+use Rattle.nesting.proofs.Caps.{cap-times}
+use Rattle.nesting.proofs.Firsts.{none-both, none-holds}
 use Rattle.balance.specs.declared.admit.OpenTurn.{OpenTurn}
 use Rattle.balance.specs.declared.fault.AdmissionFault.{AdmissionFault}
 use Rattle.balance.specs.declared.fault.AdmissionFault.the-variants as fault

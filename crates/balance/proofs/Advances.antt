@@ -11,16 +11,16 @@ use Rattle.std.specs.declared.option.Option.the-variants.{Some, None}
 use Rattle.lines.specs.declared.field.Field.{Field}
 use Rattle.lines.specs.declared.line.Line.{Line}
 use Rattle.lines.specs.declared.line.Line.the-variants as line
-use Rattle.rules.specs.declared.open.Open.{Open}
-use Rattle.rules.specs.declared.open.Open.the-variants as open-is
-use Rattle.rules.specs.declared.open.Frame.{Frame}
+use Rattle.nesting.specs.declared.open.Open.{Open}
+use Rattle.nesting.specs.declared.open.Open.the-variants as open-is
+use Rattle.nesting.specs.declared.open.Frame.{Frame}
 use Rattle.rules.specs.declared.fault.CheckFault.the-variants as fault
-use Rattle.rules.specs.Nesting.{below}
-use Rattle.rules.specs.Levels.{opens}
+use Rattle.nesting.specs.Nesting.{below}
+use Rattle.nesting.specs.Levels.{opens}
 use Rattle.rules.specs.Checks.{after, lineFault, nestingFault}
-use Rattle.rules.proofs.Levels.{length-opens}
+use Rattle.nesting.proofs.Levels.{length-opens}
 use Rattle.rules.proofs.Parsed.{split, if-holds, loop-holds}
-use Rattle.rules.proofs.Firsts.{never}
+use Rattle.nesting.proofs.Firsts.{never}
 use Rattle.balance.specs.Nested.{Nested}
 
 pub pushed-open : {T : Type 0} (st out : List (Frame T)) (x : Frame T) (r : Bool) → r ≡ ltb (length st) 8 → out ≡ cond r (x ∷ st) st → length st < 8 → opens out ≡ x .part ∷ opens st

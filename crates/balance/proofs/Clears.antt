@@ -9,10 +9,10 @@ use lib.ListN.{length}
 use Rattle.std.specs.declared.option.Option.the-variants.{Some, None}
 use Rattle.lines.specs.declared.line.Line.{Line}
 use Rattle.lines.specs.declared.operation.Operation.the-variants as op
-use Rattle.rules.specs.declared.open.Frame.{Frame}
-use Rattle.rules.specs.Nesting.{top, below}
-use Rattle.rules.specs.Levels.{opens}
-use Rattle.rules.proofs.Levels.{length-opens}
+use Rattle.nesting.specs.declared.open.Frame.{Frame}
+use Rattle.nesting.specs.Nesting.{top, below}
+use Rattle.nesting.specs.Levels.{opens}
+use Rattle.nesting.proofs.Levels.{length-opens}
 use Rattle.balance.specs.Fields.{f, mask}
 use Rattle.balance.specs.Writing.{doing, clearing, ending, endingOf}
 

@@ -7,9 +7,9 @@ use lib.ListN.{length}
 use Rattle.lines.specs.declared.line.Line.{Line}
 use Rattle.lines.specs.declared.line.Line.the-variants as line
 use Rattle.lines.specs.declared.operation.Operation.the-variants as op
-use Rattle.rules.specs.declared.open.Open.{Open}
-use Rattle.rules.specs.declared.open.Open.the-variants as open-is
-use Rattle.rules.specs.Levels.{loopLevel}
+use Rattle.nesting.specs.declared.open.Open.{Open}
+use Rattle.nesting.specs.declared.open.Open.the-variants as open-is
+use Rattle.nesting.specs.Levels.{loopLevel}
 use Rattle.rules.specs.Checks.{after}
 use Rattle.rules.specs.Trees as rule
 use Rattle.rules.specs.Trees.{Rule}

@@ -14,10 +14,10 @@ use Rattle.lines.specs.Operations.{within, under}
 use Rattle.lines.specs.declared.field.Field.{Field}
 use Rattle.lines.specs.declared.line.Line.{Line}
 use Rattle.lines.specs.declared.line.Line.the-variants as line
-use Rattle.rules.specs.Blocks.{Blocks, last, before, front, behind, replace}
-use Rattle.rules.specs.Conditions.{unless, first}
-use Rattle.rules.proofs.Blocks.{front-replace, replace-replace, replace-front}
-use Rattle.rules.proofs.Firsts.{none-both, none-holds, never}
+use Rattle.nesting.specs.Blocks.{Blocks, last, before, front, behind, replace}
+use Rattle.nesting.specs.Conditions.{unless, first}
+use Rattle.nesting.proofs.Blocks.{front-replace, replace-replace, replace-front}
+use Rattle.nesting.proofs.Firsts.{none-both, none-holds, never}
 use Rattle.balance.specs.declared.fault.AdmissionFault.{AdmissionFault}
 use Rattle.balance.specs.declared.fault.AdmissionFault.the-variants as fault
 use Rattle.balance.specs.Balanced.{Lines, stop, does, turn, flat}

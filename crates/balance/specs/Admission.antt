@@ -11,8 +11,8 @@ use Rattle.std.specs.declared.result.Result.{Result}
 use Rattle.lines.specs.Operations.{within, under}
 use Rattle.lines.specs.declared.line.Line.{Line}
 use Rattle.lines.specs.declared.line.Line.the-variants as line
-use Rattle.rules.specs.Blocks.{Blocks, last, before, front, behind, replace}
-use Rattle.rules.specs.Conditions.{unless, first, orFault}
+use Rattle.nesting.specs.Blocks.{Blocks, last, before, front, behind, replace}
+use Rattle.nesting.specs.Conditions.{unless, first, orFault}
 use Rattle.balance.specs.declared.fault.AdmissionFault.{AdmissionFault}
 use Rattle.balance.specs.declared.fault.AdmissionFault.the-variants as fault
 use Rattle.balance.specs.Balanced.{Lines, stop, does, turn, flat}

@@ -9,8 +9,8 @@ use Rattle.std.specs.declared.result.Result.the-variants.{Ok, Err}
 use Rattle.lines.specs.Operations.{within, under}
 use Rattle.lines.specs.declared.line.Line.{Line}
 use Rattle.lines.specs.declared.line.Line.the-variants as line
-use Rattle.rules.specs.Capped.{capped}
-use Rattle.rules.specs.Conditions.{andThen}
+use Rattle.nesting.specs.Capped.{capped}
+use Rattle.nesting.specs.Conditions.{andThen}
 use Rattle.balance.specs.declared.admit.OpenTurn.{OpenTurn}
 use Rattle.balance.specs.declared.fault.AdmissionFault.{AdmissionFault}
 use Rattle.balance.specs.declared.fault.AdmissionFault.the-variants as fault

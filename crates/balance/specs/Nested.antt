@@ -4,7 +4,7 @@ use Prim.Native.Nat.{ℕ, _<_, _≤_}
 use lib.ListN.{length}
 use Rattle.lines.specs.declared.line.Line.{Line}
 use Rattle.lines.specs.declared.line.Line.the-variants as line
-use Rattle.rules.specs.declared.open.Open.{Open}
+use Rattle.nesting.specs.declared.open.Open.{Open}
 
 -- An opening line is inside fewer than eight others, and an `else` inside one at least.
 abbrev pub Nested : List Open → Line → Type 0

@@ -8,10 +8,10 @@ use Rattle.lines.specs.declared.operation.Operation.{Operation}
 use Rattle.lines.specs.declared.operation.Operation.the-variants as op
 use Rattle.lines.specs.declared.line.Line.{Line}
 use Rattle.lines.specs.declared.line.Line.the-variants as line
-use Rattle.rules.specs.declared.open.Open.{Open}
-use Rattle.rules.specs.declared.open.Open.the-variants as open-is
-use Rattle.rules.specs.Nesting.{below}
-use Rattle.rules.specs.Levels.{loopLevel}
+use Rattle.nesting.specs.declared.open.Open.{Open}
+use Rattle.nesting.specs.declared.open.Open.the-variants as open-is
+use Rattle.nesting.specs.Nesting.{below}
+use Rattle.nesting.specs.Levels.{loopLevel}
 use Rattle.rules.specs.Checks.{after}
 use Rattle.balance.specs.Fields.{f, mask, choice, saved}
 

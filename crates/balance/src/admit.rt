@@ -1,18 +1,18 @@
 ghost use mathlib.Core.Path.{_≡_};
 ghost use mathlib.Core.List.{[]};
 ghost use Rattle.std.specs.Vec.{made};
-ghost use Rattle.rules.specs.Nesting.{view};
+ghost use Rattle.nesting.specs.Nesting.{view};
 ghost use Rattle.balance.specs.Admission.{admission, Admitted, IsTable};
 ghost use Rattle.balance.specs.Counting.{turnSteps, closing, opening, step, standing, finish, count};
 use crate::fault::AdmissionFault;
 use lines::field::Field;
 use lines::line::Line;
-use rules::capped::capped_product;
-use rules::capped::capped_sum;
+use nesting::capped::capped_product;
+use nesting::capped::capped_sum;
 use rules::check::MAX_ROUNDS;
 use rules::check::MAX_STEPS;
-use rules::stack::DEPTH;
-use rules::stack::Stack;
+use nesting::stack::DEPTH;
+use nesting::stack::Stack;
 
 /// The most lines of a balanced table.
 pub const MAX_TABLE_LINES: usize = 2400;

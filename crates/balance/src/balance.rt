@@ -1,6 +1,6 @@
 ghost use mathlib.Core.Path.{_≡_};
-ghost use Rattle.rules.specs.Nesting.{view};
-ghost use Rattle.rules.specs.Levels.{opens};
+ghost use Rattle.nesting.specs.Nesting.{view};
+ghost use Rattle.nesting.specs.Levels.{opens};
 ghost use mathlib.Core.List.{[]};
 ghost use Rattle.lines.specs.Overwrites.{Wrote};
 ghost use Rattle.rules.specs.Checks.{after, nestingFault};
@@ -16,9 +16,9 @@ use crate::fault::BalanceFault;
 use crate::write::write_beginning;
 use crate::write::write_line;
 use lines::line::Line;
-use rules::open::Frame;
-use rules::open::Open;
-use rules::stack::Stack;
+use nesting::open::Frame;
+use nesting::open::Open;
+use nesting::stack::Stack;
 
 /// Writes the balanced lines of a checked rule's block, as far as they fit, and answers where the next would go.
 fn write_lines(lines: &[Line], table: &mut [Line], at: usize) -> usize

@@ -2,18 +2,18 @@ ghost use mathlib.Core.Path.{_≡_};
 ghost use mathlib.Core.List.{[]};
 ghost use Prim.Native.Nat.{_+_, _-_, _≤_};
 ghost use Rattle.lines.specs.Overwrites.{Wrote};
-ghost use Rattle.rules.specs.Nesting.{view};
-ghost use Rattle.rules.specs.Levels.{opens};
+ghost use Rattle.nesting.specs.Nesting.{view};
+ghost use Rattle.nesting.specs.Levels.{opens};
 ghost use Rattle.balance.specs.Fields.{mask, choice, saved};
 ghost use Rattle.balance.specs.Writing.{beginning, operating, choosing, turning, looping, ending, endingOf, clearing, breaking, written};
 use lines::field::Field;
 use lines::line::Line;
 use lines::operation::Operation;
 use lines::write::write_all;
-use rules::open::Frame;
-use rules::open::Open;
-use rules::open::loop_level;
-use rules::stack::Stack;
+use nesting::open::Frame;
+use nesting::open::Open;
+use nesting::open::loop_level;
+use nesting::stack::Stack;
 
 /// Always 0.
 const ZERO: Field = Field(64);

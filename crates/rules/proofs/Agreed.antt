@@ -13,18 +13,18 @@ use Rattle.std.specs.declared.result.Result.the-variants.{Ok, Err}
 use Rattle.lines.specs.Operations.{within, under}
 use Rattle.lines.specs.declared.line.Line.{Line}
 use Rattle.lines.specs.declared.line.Line.the-variants as line
-use Rattle.rules.specs.declared.open.Open.{Open}
-use Rattle.rules.specs.declared.open.Open.the-variants as open-is
-use Rattle.rules.specs.declared.open.Frame.{Frame}
+use Rattle.nesting.specs.declared.open.Open.{Open}
+use Rattle.nesting.specs.declared.open.Open.the-variants as open-is
+use Rattle.nesting.specs.declared.open.Frame.{Frame}
 use Rattle.rules.specs.declared.fault.CheckFault.{CheckFault}
 use Rattle.rules.specs.declared.fault.CheckFault.the-variants as fault
 use Rattle.rules.specs.declared.check.Costs.{Costs}
 use Rattle.rules.specs.declared.check.Sums.{Sums}
-use Rattle.rules.specs.Levels.{opens, loopLevel}
+use Rattle.nesting.specs.Levels.{opens, loopLevel}
 use Rattle.rules.specs.Checks.{elseFault, endFault, lineFault, after, nestingFault}
 use Rattle.rules.specs.Passes.{Walk, free, plus, opening, elseOf, halving, endOf, closing, breaking, step, finish, pass}
-use Rattle.rules.specs.Conditions.{unless, first, andThen}
-use Rattle.rules.proofs.Levels.{length-opens}
+use Rattle.nesting.specs.Conditions.{unless, first, andThen}
+use Rattle.nesting.proofs.Levels.{length-opens}
 
 -- a step refuses with the fault, or leaves the lines os open
 abbrev pub Agrees : Option CheckFault → Result Walk CheckFault → List Open → Type 0

@@ -21,10 +21,10 @@ use Rattle.rules.specs.declared.check.Costs.{Costs}
 use Rattle.rules.specs.Trees.{Rule, done, op, when, loop, break, flat, StandsFor, Fits, ruleOf}
 use Rattle.rules.specs.Costs.{plainCost, blockCost, balancedCost}
 use Rattle.rules.specs.Checks.{nestingFault, firstFault, Checked, IsRule, costsOf, checked}
-use Rattle.rules.specs.Conditions.{unless, first, orFault}
-use Rattle.rules.specs.Capped.{capped}
+use Rattle.nesting.specs.Conditions.{unless, first, orFault}
+use Rattle.nesting.specs.Capped.{capped}
 use Rattle.rules.specs.Passes.{Walk, start, plus, finish, pass}
-use Rattle.rules.proofs.Firsts.{none-both, none-holds}
+use Rattle.nesting.proofs.Firsts.{none-both, none-holds}
 use Rattle.rules.proofs.Parsed.{stands, rule-flat}
 use Rattle.rules.proofs.Agreed.{refuses}
 use Rattle.rules.proofs.Costed.{Low, size, length-flat, costed}

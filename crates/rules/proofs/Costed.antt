@@ -13,21 +13,21 @@ use Rattle.std.specs.declared.result.Result.the-variants.{Ok, Err}
 use Rattle.lines.specs.Operations.{within, under}
 use Rattle.lines.specs.declared.line.Line.{Line}
 use Rattle.lines.specs.declared.line.Line.the-variants as line
-use Rattle.rules.specs.declared.open.Open.{Open}
-use Rattle.rules.specs.declared.open.Open.the-variants as open-is
-use Rattle.rules.specs.declared.open.Frame.{Frame}
+use Rattle.nesting.specs.declared.open.Open.{Open}
+use Rattle.nesting.specs.declared.open.Open.the-variants as open-is
+use Rattle.nesting.specs.declared.open.Frame.{Frame}
 use Rattle.rules.specs.declared.fault.CheckFault.{CheckFault}
 use Rattle.rules.specs.declared.fault.CheckFault.the-variants as fault
 use Rattle.rules.specs.declared.check.Costs.{Costs}
 use Rattle.rules.specs.declared.check.Sums.{Sums}
-use Rattle.rules.specs.Levels.{opens, loopLevel}
+use Rattle.nesting.specs.Levels.{opens, loopLevel}
 use Rattle.rules.specs.Trees.{Rule, done, op, when, loop, break, flat, Fits}
 use Rattle.rules.specs.Costs.{plainCost, blockCost}
 use Rattle.rules.specs.Passes.{Walk, free, plus, ifCosts, loopCosts, opening, step, pass}
-use Rattle.rules.specs.Capped.{capped}
-use Rattle.rules.specs.Conditions.{andThen}
-use Rattle.rules.proofs.Caps.{cap-times}
-use Rattle.rules.proofs.Levels.{length-opens}
+use Rattle.nesting.specs.Capped.{capped}
+use Rattle.nesting.specs.Conditions.{andThen}
+use Rattle.nesting.proofs.Caps.{cap-times}
+use Rattle.nesting.proofs.Levels.{length-opens}
 
 -- how many lines a rule has
 unfoldable pub size : Rule → ℕ

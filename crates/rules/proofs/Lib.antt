@@ -1,9 +1,4 @@
-pub mod Firsts
-pub mod Caps
-pub mod Views
-pub mod Levels
 pub mod Steps
-pub mod Blocks
 pub mod Parsed
 pub mod Costed
 pub mod Agreed

@@ -14,18 +14,18 @@ use Rattle.lines.specs.declared.field.Field.{Field}
 use Rattle.lines.specs.declared.operation.Operation.{Operation}
 use Rattle.lines.specs.declared.line.Line.{Line}
 use Rattle.lines.specs.declared.line.Line.the-variants as line
-use Rattle.rules.specs.declared.open.Open.{Open}
-use Rattle.rules.specs.declared.open.Open.the-variants as open-is
+use Rattle.nesting.specs.declared.open.Open.{Open}
+use Rattle.nesting.specs.declared.open.Open.the-variants as open-is
 use Rattle.rules.specs.declared.fault.CheckFault.{CheckFault}
 use Rattle.rules.specs.declared.fault.CheckFault.the-variants as fault
-use Rattle.rules.specs.Nesting.{below}
-use Rattle.rules.specs.Levels.{loopLevel}
+use Rattle.nesting.specs.Nesting.{below}
+use Rattle.nesting.specs.Levels.{loopLevel}
 use Rattle.rules.specs.Trees.{Rule, done, op, when, loop, break, flat, Fits, blocks, ruleOf}
-use Rattle.rules.specs.Blocks.{Blocks, last, before, front, behind, replace}
-use Rattle.rules.proofs.Blocks.{front-replace, replace-replace, replace-front}
+use Rattle.nesting.specs.Blocks.{Blocks, last, before, front, behind, replace}
+use Rattle.nesting.proofs.Blocks.{front-replace, replace-replace, replace-front}
 use Rattle.rules.specs.Checks.{lineFault, after, nestingFault}
-use Rattle.rules.specs.Conditions.{unless, first}
-use Rattle.rules.proofs.Firsts.{none-both, none-holds, never}
+use Rattle.nesting.specs.Conditions.{unless, first}
+use Rattle.nesting.proofs.Firsts.{none-both, none-holds, never}
 
 -- what the lines l are, inside st: a block, what closes it, and so on outwards
 abbrev Parsed : List Open → List Line → Type 0

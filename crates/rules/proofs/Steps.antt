@@ -12,14 +12,14 @@ use Rattle.rules.specs.declared.fault.CheckFault.{CheckFault}
 use Rattle.std.proofs.shelf.Tests.{lt-ltb}
 use Rattle.std.specs.declared.option.Option.the-variants.{Some, None}
 use Rattle.std.specs.declared.result.Result.the-variants.{Ok, Err}
-use Rattle.rules.specs.declared.open.Open.{Open}
-use Rattle.rules.specs.declared.open.Open.the-variants as open-is
-use Rattle.rules.specs.declared.open.Frame.{Frame}
+use Rattle.nesting.specs.declared.open.Open.{Open}
+use Rattle.nesting.specs.declared.open.Open.the-variants as open-is
+use Rattle.nesting.specs.declared.open.Frame.{Frame}
 use Rattle.rules.specs.declared.check.Costs.{Costs}
 use Rattle.rules.specs.declared.check.Sums.{Sums}
-use Rattle.rules.specs.Nesting.{top, below}
+use Rattle.nesting.specs.Nesting.{top, below}
 use Rattle.rules.specs.Passes.{free, halving, elseOf, Walk, step, pass, finish}
-use Rattle.rules.specs.Conditions.{andThen}
+use Rattle.nesting.specs.Conditions.{andThen}
 
 -- after a pop there is room for a push
 pub halved : (at : ℕ) (c : Costs) (st rest out : List (Frame Sums)) (f g : Frame Sums) (r : Bool) → Some f ≡ top st → rest ≡ below st → f .part ≡ open-is.Then → length st ≤ 8 →

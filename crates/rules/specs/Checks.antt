@@ -10,14 +10,14 @@ use Rattle.std.specs.declared.result.Result.{Result}
 use Rattle.lines.specs.Operations.{within, under}
 use Rattle.lines.specs.declared.line.Line.{Line}
 use Rattle.lines.specs.declared.line.Line.the-variants as line
-use Rattle.rules.specs.declared.open.Open.{Open}
-use Rattle.rules.specs.declared.open.Open.the-variants as open-is
+use Rattle.nesting.specs.declared.open.Open.{Open}
+use Rattle.nesting.specs.declared.open.Open.the-variants as open-is
 use Rattle.rules.specs.declared.fault.CheckFault.{CheckFault}
 use Rattle.rules.specs.declared.fault.CheckFault.the-variants as fault
 use Rattle.rules.specs.declared.check.Costs.{Costs}
-use Rattle.rules.specs.Conditions.{unless, first, orFault}
-use Rattle.rules.specs.Nesting.{below}
-use Rattle.rules.specs.Levels.{loopLevel}
+use Rattle.nesting.specs.Conditions.{unless, first, orFault}
+use Rattle.nesting.specs.Nesting.{below}
+use Rattle.nesting.specs.Levels.{loopLevel}
 use Rattle.rules.specs.Trees.{Rule, StandsFor, Fits, ruleOf}
 use Rattle.rules.specs.Costs.{plainCost, balancedCost}
 

@@ -1,10 +1,5 @@
-pub mod Blocks
 pub mod Trees
 pub mod Costs
-pub mod Conditions
-pub mod Capped
-pub mod Nesting
-pub mod Levels
 pub mod Faults
 pub mod Checks
 pub mod Passes

@@ -9,16 +9,16 @@ use Rattle.std.specs.declared.result.Result.the-variants.{Ok, Err}
 use Rattle.lines.specs.Operations.{within, under}
 use Rattle.lines.specs.declared.line.Line.{Line}
 use Rattle.lines.specs.declared.line.Line.the-variants as line
-use Rattle.rules.specs.declared.open.Open.{Open}
-use Rattle.rules.specs.declared.open.Open.the-variants as open-is
-use Rattle.rules.specs.declared.open.Frame.{Frame}
+use Rattle.nesting.specs.declared.open.Open.{Open}
+use Rattle.nesting.specs.declared.open.Open.the-variants as open-is
+use Rattle.nesting.specs.declared.open.Frame.{Frame}
 use Rattle.rules.specs.declared.fault.CheckFault.{CheckFault}
 use Rattle.rules.specs.declared.fault.CheckFault.the-variants as fault
 use Rattle.rules.specs.declared.check.Costs.{Costs}
 use Rattle.rules.specs.declared.check.Sums.{Sums}
-use Rattle.rules.specs.Conditions.{andThen}
-use Rattle.rules.specs.Capped.{capped}
-use Rattle.rules.specs.Levels.{opens, loopLevel}
+use Rattle.nesting.specs.Conditions.{andThen}
+use Rattle.nesting.specs.Capped.{capped}
+use Rattle.nesting.specs.Levels.{opens, loopLevel}
 
 -- Nothing, the costs of an empty block.
 abbrev pub free : Costs

@@ -5,7 +5,7 @@ use mathlib.Core.Bool.{true}
 use Prim.Native.Nat.{ℕ, suc, _<_}
 use Rattle.lines.specs.Operations.{within, under}
 use Rattle.lines.specs.declared.field.Field.{Field}
-use Rattle.rules.specs.Blocks.{Blocks, last, before, front, behind, replace}
+use Rattle.nesting.specs.Blocks.{Blocks, last, before, front, behind, replace}
 use Rattle.lines.specs.declared.operation.Operation.{Operation}
 use Rattle.lines.specs.declared.line.Line.{Line}
 use Rattle.lines.specs.declared.line.Line.the-variants as line

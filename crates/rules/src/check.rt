@@ -2,16 +2,16 @@ ghost use mathlib.Core.Path.{_≡_};
 ghost use mathlib.Core.List.{[]};
 ghost use Rattle.std.specs.Vec.{made};
 ghost use Rattle.rules.specs.Checks.{checked, Checked, IsRule};
-ghost use Rattle.rules.specs.Nesting.{view};
+ghost use Rattle.nesting.specs.Nesting.{view};
 ghost use Rattle.rules.specs.Passes.{plus, ifCosts, loopCosts, opening, halving, closing, breaking, step, standing, start, pass, finish};
-use crate::capped::capped_product;
-use crate::capped::capped_sum;
+use nesting::capped::capped_product;
+use nesting::capped::capped_sum;
 use crate::fault::CheckFault;
-use crate::open::Frame;
-use crate::open::Open;
-use crate::open::loop_level;
-use crate::stack::DEPTH;
-use crate::stack::Stack;
+use nesting::open::Frame;
+use nesting::open::Open;
+use nesting::open::loop_level;
+use nesting::stack::DEPTH;
+use nesting::stack::Stack;
 use lines::line::Line;
 
 /// The most lines of a rule.

@@ -1,7 +1,7 @@
 use mathlib.Core.Path.{_≡_, sym, _∙_}
 use native.Mathlib.Omega.{arith}
 use Rattle.std.proofs.shelf.Results.{err-from-errBy}
-use Rattle.rules.specs.Nesting.{view}
+use Rattle.nesting.specs.Nesting.{view}
 use Rattle.balance.specs.Counting.{Count}
 use Rattle.balance.proofs.Counts.{count-on, count-fault, count-end}
 use Rattle.balance.proofs.admit.count_steps.Needs as need

@@ -1,7 +1,7 @@
 use mathlib.Core.Path.{_≡_}
 use mathlib.Core.List.{[]}
 use lib.ListN.{drop}
-use Rattle.rules.specs.Nesting.{view}
+use Rattle.nesting.specs.Nesting.{view}
 use Rattle.balance.specs.Counting.{count}
 use Rattle.balance.proofs.admit.count_steps.Given as given
 

@@ -3,12 +3,12 @@ use mathlib.Core.List.{List, _∷_}
 use native.Mathlib.Omega.{arith}
 use lib.ListN.{length}
 use Rattle.lines.specs.declared.line.Line.{Line}
-use Rattle.rules.specs.declared.open.Open.{Open}
-use Rattle.rules.specs.declared.open.Open.the-variants as open-is
-use Rattle.rules.specs.Nesting.{view}
-use Rattle.rules.specs.Levels.{opens}
+use Rattle.nesting.specs.declared.open.Open.{Open}
+use Rattle.nesting.specs.declared.open.Open.the-variants as open-is
+use Rattle.nesting.specs.Nesting.{view}
+use Rattle.nesting.specs.Levels.{opens}
 use Rattle.rules.specs.Checks.{after}
-use Rattle.rules.proofs.Levels.{length-opens}
+use Rattle.nesting.proofs.Levels.{length-opens}
 use Rattle.balance.specs.Nested.{Nested}
 use Rattle.balance.proofs.Advances.{pushed-open, opens-below, length-opens-below}
 use Rattle.balance.proofs.balance.advance.Needs as need

@@ -8,12 +8,12 @@ use Rattle.std.specs.declared.option.Option.the-variants.{None}
 use Rattle.lines.specs.declared.line.Line.{Line}
 use Rattle.lines.specs.declared.line.Line.the-variants as line
 use Rattle.lines.proofs.Overwrites.{wrote-none, wrote-more, wrote-same}
-use Rattle.rules.specs.declared.open.Open.{Open}
-use Rattle.rules.specs.Nesting.{view}
-use Rattle.rules.specs.Levels.{opens}
+use Rattle.nesting.specs.declared.open.Open.{Open}
+use Rattle.nesting.specs.Nesting.{view}
+use Rattle.nesting.specs.Levels.{opens}
 use Rattle.rules.specs.Checks.{after, nestingFault}
-use Rattle.rules.proofs.Levels.{length-opens}
-use Rattle.rules.proofs.Views.{length-view}
+use Rattle.nesting.proofs.Levels.{length-opens}
+use Rattle.nesting.proofs.Views.{length-view}
 use Rattle.balance.specs.Writing.{written, pass}
 use Rattle.balance.proofs.Advances.{nested-first, nested-rest}
 use Rattle.balance.proofs.Passed.{pass-none, pass-more}

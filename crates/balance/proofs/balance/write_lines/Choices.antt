@@ -4,8 +4,8 @@ use lib.ListN.{drop}
 use Rattle.std.specs.declared.option.Option.the-variants.{None}
 use Rattle.lines.specs.Overwrites.{Wrote}
 use Rattle.lines.specs.declared.line.Line.{Line}
-use Rattle.rules.specs.Nesting.{view}
-use Rattle.rules.specs.Levels.{opens}
+use Rattle.nesting.specs.Nesting.{view}
+use Rattle.nesting.specs.Levels.{opens}
 use Rattle.rules.specs.Checks.{nestingFault}
 use Rattle.balance.specs.Writing.{pass}
 use Rattle.balance.proofs.balance.write_lines.Given as given

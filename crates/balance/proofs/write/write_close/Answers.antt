@@ -2,7 +2,7 @@ use mathlib.Core.Path.{ap, sym, _∙_}
 use Prim.Native.Nat.{_-_}
 use native.Mathlib.Omega.{arith}
 use Rattle.lines.proofs.Overwrites.{wrote-none, wrote-same}
-use Rattle.rules.specs.Nesting.{view}
+use Rattle.nesting.specs.Nesting.{view}
 use Rattle.balance.specs.Writing.{ending}
 use Rattle.balance.proofs.Clears.{ending-some, ending-none}
 use Rattle.balance.proofs.write.write_close.Needs as need

@@ -3,9 +3,9 @@ use Prim.Native.Nat.{ℕ, _-_}
 use native.Mathlib.Omega.{arith}
 use lib.ListN.{length}
 use Rattle.lines.proofs.Overwrites.{wrote-none, wrote-same}
-use Rattle.rules.specs.Nesting.{view, below}
-use Rattle.rules.specs.Levels.{opens, loopLevel}
-use Rattle.rules.proofs.Levels.{length-opens, level-within}
+use Rattle.nesting.specs.Nesting.{view, below}
+use Rattle.nesting.specs.Levels.{opens, loopLevel}
+use Rattle.nesting.proofs.Levels.{length-opens, level-within}
 use Rattle.balance.specs.Writing.{written, operating, choosing, turning, looping, breaking}
 use Rattle.balance.proofs.Clears.{length-below}
 use Rattle.balance.proofs.write.write_line.Needs as need

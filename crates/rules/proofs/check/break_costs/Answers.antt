@@ -1,10 +1,10 @@
 use Prim.Native.Nat.{_≤_}
 use native.Mathlib.Omega.{arith}
 use lib.ListN.{length}
-use Rattle.rules.specs.Nesting.{view}
-use Rattle.rules.specs.Levels.{opens, loopLevel}
-use Rattle.rules.proofs.Views.{length-view}
-use Rattle.rules.proofs.Levels.{level-within, length-opens}
+use Rattle.nesting.specs.Nesting.{view}
+use Rattle.nesting.specs.Levels.{opens, loopLevel}
+use Rattle.nesting.proofs.Views.{length-view}
+use Rattle.nesting.proofs.Levels.{level-within, length-opens}
 use Rattle.rules.proofs.check.break_costs.Needs as need
 
 pub sub-level : need.sub-level

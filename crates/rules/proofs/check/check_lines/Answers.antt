@@ -1,7 +1,7 @@
 use mathlib.Core.Path.{_≡_, sym, _∙_}
 use native.Mathlib.Omega.{arith}
 use Rattle.std.proofs.shelf.Results.{err-from-errBy}
-use Rattle.rules.specs.Nesting.{view}
+use Rattle.nesting.specs.Nesting.{view}
 use Rattle.rules.specs.Passes.{Walk}
 use Rattle.rules.proofs.Steps.{pass-on, pass-fault, pass-end}
 use Rattle.rules.proofs.check.check_lines.Needs as need

@@ -1,7 +1,7 @@
 use mathlib.Core.Path.{_≡_}
 use mathlib.Core.List.{[]}
 use lib.ListN.{drop}
-use Rattle.rules.specs.Nesting.{view}
+use Rattle.nesting.specs.Nesting.{view}
 use Rattle.rules.specs.Passes.{pass, start}
 use Rattle.rules.proofs.check.check_lines.Given as given
 

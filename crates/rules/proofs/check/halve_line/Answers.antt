@@ -1,7 +1,7 @@
 use mathlib.Core.Path.{refl}
 use native.Mathlib.Omega.{arith}
-use Rattle.rules.specs.Nesting.{view}
-use Rattle.rules.proofs.Views.{length-view}
+use Rattle.nesting.specs.Nesting.{view}
+use Rattle.nesting.proofs.Views.{length-view}
 use Rattle.rules.proofs.Steps.{halved}
 use Rattle.rules.proofs.check.halve_line.Needs as need
 

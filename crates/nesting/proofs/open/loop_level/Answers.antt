@@ -2,10 +2,10 @@ use mathlib.Core.Path.{_≡_, sym, ap, _∙_}
 use mathlib.Core.Bool.{true, false}
 use native.Mathlib.Omega.{arith}
 use Rattle.std.proofs.shelf.Lists.{at-drop-all}
-use Rattle.rules.specs.Nesting.{view}
-use Rattle.rules.specs.Levels.{loopLevel, loops, opens}
-use Rattle.rules.proofs.Levels.{loop-found, loop-on}
-use Rattle.rules.proofs.open.loop_level.Needs as need
+use Rattle.nesting.specs.Nesting.{view}
+use Rattle.nesting.specs.Levels.{loopLevel, loops, opens}
+use Rattle.nesting.proofs.Levels.{loop-found, loop-on}
+use Rattle.nesting.proofs.open.loop_level.Needs as need
 
 pub returns-then-is-loop : need.returns-then-is-loop
 returns-then-is-loop g c =

@@ -1,8 +1,8 @@
 use mathlib.Core.Path.{ap, sym}
 use native.Mathlib.Omega.{arith}
-use Rattle.rules.specs.Nesting.{top, below}
-use Rattle.rules.proofs.Views.{view-pop}
-use Rattle.rules.proofs.stack.Stack.pop.Needs as need
+use Rattle.nesting.specs.Nesting.{top, below}
+use Rattle.nesting.proofs.Views.{view-pop}
+use Rattle.nesting.proofs.stack.Stack.pop.Needs as need
 
 pub returns : need.returns
 returns g c =

@@ -1,6 +1,6 @@
 ghost use mathlib.Core.Path.{_≡_};
 ghost use Prim.Native.Nat.{_+_, _*_};
-ghost use Rattle.rules.specs.Capped.{capped};
+ghost use Rattle.nesting.specs.Capped.{capped};
 
 /// Steps are cut off here: any more is too many all the same, and so no sum or product is ever too large.
 const CAP: u32 = 65_536;

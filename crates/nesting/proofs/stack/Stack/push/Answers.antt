@@ -1,8 +1,8 @@
 use mathlib.Core.Path.{refl, sym}
 use native.Mathlib.Omega.{arith}
 use Rattle.std.proofs.shelf.Tests.{lt-ltb, le-ltb}
-use Rattle.rules.proofs.Views.{length-view, view-push}
-use Rattle.rules.proofs.stack.Stack.push.Needs as need
+use Rattle.nesting.proofs.Views.{length-view, view-push}
+use Rattle.nesting.proofs.stack.Stack.push.Needs as need
 
 pub returns-then-self-lt-DEPTH : need.returns-then-self-lt-DEPTH
 returns-then-self-lt-DEPTH g c =

@@ -5,7 +5,7 @@ use Prim.Native.Nat.{ℕ, zero, suc, _+_, _*_, _≤_, _<_, min}
 use native.Mathlib.Omega.{arith}
 use native.Mathlib.Nat.{mul-le-mul-left}
 use Rattle.std.proofs.shelf.Tests.{cases-lt}
-use Rattle.rules.specs.Capped.{capped}
+use Rattle.nesting.specs.Capped.{capped}
 
 pub cap-times : (n a : ℕ) → capped (n * capped a) ≡ capped (n * a)
 cap-times zero a = omega arith

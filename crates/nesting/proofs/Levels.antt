@@ -9,11 +9,11 @@ use lib.ListN.{length, drop}
 use Rattle.std.proofs.shelf.Lists.{length-drop, at-drop-all}
 use Rattle.std.proofs.shelf.Tests.{both-ways}
 use Rattle.std.specs.declared.option.Option.the-variants.{Some, None}
-use Rattle.rules.specs.declared.open.Open.{Open}
-use Rattle.rules.specs.declared.open.Open.the-variants as open-is
-use Rattle.rules.specs.declared.open.Frame.{Frame}
-use Rattle.rules.specs.Nesting.{top}
-use Rattle.rules.specs.Levels.{opens, loopLevel, isLoop, loops}
+use Rattle.nesting.specs.declared.open.Open.{Open}
+use Rattle.nesting.specs.declared.open.Open.the-variants as open-is
+use Rattle.nesting.specs.declared.open.Frame.{Frame}
+use Rattle.nesting.specs.Nesting.{top}
+use Rattle.nesting.specs.Levels.{opens, loopLevel, isLoop, loops}
 
 pub length-opens : {T : Type 0} (st : List (Frame T)) → length (opens st) ≡ length st
 length-opens [] = refl

@@ -8,7 +8,7 @@ use lib.ListN.{length, getD, set, take, drop}
 use Rattle.std.proofs.shelf.Lists.{length-reverse, length-take-le, take-more, take-more-set, reverse-append, getD-reverse, getD-take, drop-more, drop-all}
 use Rattle.std.proofs.shelf.Tests.{cases-lt}
 use Rattle.std.specs.declared.option.Option.the-variants.{Some, None}
-use Rattle.rules.specs.Nesting.{view, top}
+use Rattle.nesting.specs.Nesting.{view, top}
 
 pub length-view : {T : Type 0} (items : List T) (depth : ℕ) → depth ≤ length items → length (view items depth) ≡ depth
 length-view items depth h = length-reverse (take depth items) ∙ length-take-le depth items h

@@ -4,7 +4,7 @@ ghost use mathlib.Core.List.{[], _∷_};
 ghost use Prim.Native.Nat.{_≤_, _<_};
 ghost use lib.Dec.{ltb, eqb};
 ghost use lib.ListN.{length, drop};
-ghost use Rattle.rules.specs.Nesting.{view, top, below};
+ghost use Rattle.nesting.specs.Nesting.{view, top, below};
 
 /// How deep ifs, loops and turns may nest.
 pub const DEPTH: usize = 8;

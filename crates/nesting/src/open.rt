@@ -1,7 +1,7 @@
 ghost use mathlib.Core.Path.{_≡_};
 ghost use mathlib.Core.List.{map};
-ghost use Rattle.rules.specs.Nesting.{view};
-ghost use Rattle.rules.specs.Levels.{loopLevel, loops, opens};
+ghost use Rattle.nesting.specs.Nesting.{view};
+ghost use Rattle.nesting.specs.Levels.{loopLevel, loops, opens};
 use crate::stack::Stack;
 use lines::field::Field;
 
