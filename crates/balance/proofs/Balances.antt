@@ -21,11 +21,12 @@ use Rattle.nesting.specs.Conditions.{unless, first}
 use Rattle.rules.specs.Checks.{IsRule}
 use Rattle.rules.proofs.Costed as rules
 use Rattle.balance.specs.Fields.{f, mask, choice, saved}
-use Rattle.balance.specs.Balanced.{Lines, stop, does, turn, flat, clears, balance, balanced, balancedTable}
-use Rattle.balance.specs.Steps.{steps}
-use Rattle.balance.specs.Admission.{Runs, linesOf, nestingFault, firstFault, Admitted}
-use Rattle.balance.specs.declared.fault.AdmissionFault.the-variants as fault
-use Rattle.balance.proofs.Tables.{size, length-flat, lines-flat, faultless}
+use Rattle.tables.specs.Lines.{Lines, stop, does, turn, flat}
+use Rattle.balance.specs.Balanced.{clears, balance, balanced, balancedTable}
+use Rattle.tables.specs.Steps.{steps}
+use Rattle.tables.specs.Admission.{Runs, linesOf, nestingFault, firstFault, Admitted}
+use Rattle.tables.specs.declared.fault.AdmissionFault.the-variants as fault
+use Rattle.tables.proofs.Tables.{size, length-flat, lines-flat, faultless}
 
 clears-steps : (n r : ℕ) (l : Lines) → steps (clears r n l) ≡ n + steps l
 unfolding steps clears

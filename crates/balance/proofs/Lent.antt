@@ -16,12 +16,12 @@ use Rattle.rules.specs.Checks.{Checked, IsRule}
 use Rattle.rules.proofs.Checked.{is-rule}
 use Rattle.balance.specs.declared.fault.BalanceFault.the-variants.{TableTooShort}
 use Rattle.balance.specs.Balanced.{balanced, balancedTable}
-use Rattle.balance.specs.Steps.{steps}
-use Rattle.balance.specs.Admission.{linesOf, Admitted}
+use Rattle.tables.specs.Steps.{steps}
+use Rattle.tables.specs.Admission.{linesOf, Admitted}
 use Rattle.balance.specs.Balancing.{balancedLines, balanceAnswer, tableAfter, AlwaysAdmitted}
 use Rattle.balance.specs.Writing.{beginning, pass}
 use Rattle.balance.proofs.Passed.{passed}
-use Rattle.balance.proofs.Tables.{lines-flat}
+use Rattle.tables.proofs.Tables.{lines-flat}
 use Rattle.balance.proofs.Balances.{counted, balanced-short, balanced-admitted}
 
 -- what is written for a checked rule

@@ -14,7 +14,8 @@ use Rattle.rules.specs.Checks.{after}
 use Rattle.rules.specs.Trees as rule
 use Rattle.rules.specs.Trees.{Rule}
 use Rattle.balance.specs.Fields.{f, mask, choice, saved}
-use Rattle.balance.specs.Balanced.{Lines, stop, does, turn, flat, clears, balance, balanced, balancedTable}
+use Rattle.tables.specs.Lines.{Lines, stop, does, turn, flat}
+use Rattle.balance.specs.Balanced.{clears, balance, balanced, balancedTable}
 use Rattle.balance.specs.Writing.{doing, clearing, ending, endingOf, operating, choosing, turning, looping, breaking, written, pass, beginning}
 
 pub pass-none : (st : List Open) → pass st [] ≡ []

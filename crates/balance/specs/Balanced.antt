@@ -1,27 +1,14 @@
--- Lines that never branch, and the balanced form of a rule.
-use mathlib.Core.List.{List, [], _∷_}
+-- The balanced form of a rule.
+use mathlib.Core.List.{List, []}
 use Prim.Native.Nat.{ℕ, zero, suc, _+_, _-_}
 use Rattle.lines.specs.Operations.{destination, into}
-use Rattle.lines.specs.declared.field.Field.{Field}
 use Rattle.lines.specs.declared.operation.Operation.{Operation}
 use Rattle.lines.specs.declared.operation.Operation.the-variants as op
 use Rattle.lines.specs.declared.line.Line.{Line}
-use Rattle.lines.specs.declared.line.Line.the-variants as line
 use Rattle.rules.specs.Trees as rule
 use Rattle.rules.specs.Trees.{Rule}
+use Rattle.tables.specs.Lines.{Lines, stop, does, turn, flat}
 use Rattle.balance.specs.Fields.{f, mask, choice, saved}
-
--- Balanced lines: operations, and turns with their bodies. Each case holds the rest last.
-pub data Lines : Type 0 where
-  stop : Lines
-  does : Operation → Lines → Lines
-  turn : Field → ℕ → Lines → Lines → Lines
-
--- The lines one after another, with the lines `after` behind them.
-unfoldable pub flat : Lines → List Line → List Line
-flat stop after = after
-flat (does o l) after = line.Operation o ∷ flat l after
-flat (turn i n b l) after = line.Turn i n ∷ flat b (line.End ∷ flat l after)
 
 -- `and M(r) M(r) f66`, for n levels from r on.
 unfoldable pub clears : ℕ → ℕ → Lines → Lines

@@ -13,8 +13,8 @@ use Rattle.rules.specs.Costs.{balancedCost}
 use Rattle.balance.specs.declared.fault.BalanceFault.{BalanceFault}
 use Rattle.balance.specs.declared.fault.BalanceFault.the-variants.{TableTooShort}
 use Rattle.balance.specs.Balanced.{balanced, balancedTable}
-use Rattle.balance.specs.Steps.{steps}
-use Rattle.balance.specs.Admission.{linesOf, Admitted}
+use Rattle.tables.specs.Steps.{steps}
+use Rattle.tables.specs.Admission.{linesOf, Admitted}
 
 -- The balanced lines of a checked rule's table.
 abbrev pub balancedLines : List Line → List Line

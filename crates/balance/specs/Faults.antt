@@ -1,9 +1,7 @@
--- The numbers and places of the faults of balancing and of admission.
+-- The numbers and places of the faults of balancing.
 use Prim.Native.Nat.{ℕ}
 use Rattle.balance.specs.declared.fault.BalanceFault.{BalanceFault}
 use Rattle.balance.specs.declared.fault.BalanceFault.the-variants.{TableTooShort}
-use Rattle.balance.specs.declared.fault.AdmissionFault.{AdmissionFault}
-use Rattle.balance.specs.declared.fault.AdmissionFault.the-variants as fault
 
 -- The number of a fault of balancing.
 abbrev pub balanceNumber : BalanceFault → ℕ
@@ -12,25 +10,3 @@ balanceNumber TableTooShort = 20
 -- The place of a fault of balancing.
 abbrev pub balancePlace : BalanceFault → ℕ
 balancePlace TableTooShort = 0
-
--- The number of a fault of admission.
-abbrev pub admissionNumber : AdmissionFault → ℕ
-admissionNumber (fault.TooManyLines n) = 30
-admissionNumber (fault.RuleLine n) = 31
-admissionNumber (fault.FieldOffTable n) = 32
-admissionNumber (fault.StrayEnd n) = 33
-admissionNumber (fault.TooDeep n) = 34
-admissionNumber (fault.TooManyRounds n) = 35
-admissionNumber (fault.Unclosed n) = 33
-admissionNumber (fault.TooManySteps n) = 36
-
--- The place of a fault of admission: the line's number from 0, and the line count for too many lines, a turn left open and too many steps.
-abbrev pub admissionPlace : AdmissionFault → ℕ
-admissionPlace (fault.TooManyLines count) = count
-admissionPlace (fault.RuleLine line) = line
-admissionPlace (fault.FieldOffTable line) = line
-admissionPlace (fault.StrayEnd line) = line
-admissionPlace (fault.TooDeep line) = line
-admissionPlace (fault.TooManyRounds line) = line
-admissionPlace (fault.Unclosed count) = count
-admissionPlace (fault.TooManySteps count) = count

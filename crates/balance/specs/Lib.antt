@@ -1,9 +1,6 @@
 pub mod Fields
 pub mod Balanced
-pub mod Steps
 pub mod Writing
 pub mod Faults
-pub mod Admission
-pub mod Counting
 pub mod Nested
 pub mod Balancing

@@ -1,6 +1,5 @@
-//! Balanced tables: from a checked rule to lines that never branch, and the admission of such tables.
+//! From a checked rule to balanced lines, which never branch.
 
-pub mod admit;
 pub mod balance;
 pub mod fault;
 mod write;

@@ -1,5 +1,5 @@
 //! Tables and what admission answers.
-use balance::admit::admit;
+use tables::admit::admit;
 use lines::field::Field;
 use lines::line::Line;
 use lines::operation::Operation;

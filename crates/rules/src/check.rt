@@ -10,6 +10,8 @@ use crate::fault::CheckFault;
 use nesting::open::Frame;
 use nesting::open::Open;
 use nesting::open::loop_level;
+use nesting::limits::MAX_ROUNDS;
+use nesting::limits::MAX_STEPS;
 use nesting::stack::DEPTH;
 use nesting::stack::Stack;
 use lines::line::Line;
@@ -17,14 +19,8 @@ use lines::line::Line;
 /// The most lines of a rule.
 pub const MAX_RULE_LINES: usize = 256;
 
-/// The most rounds of a loop.
-pub const MAX_ROUNDS: u32 = 1000;
-
 /// How many fields a card has.
 pub const CARD_FIELDS: u8 = 64;
-
-/// The most steps of a balanced rule.
-pub const MAX_STEPS: u32 = 65_535;
 
 /// What a rule costs.
 #[derive(Clone, Copy, PartialEq, Debug)]

@@ -6,7 +6,7 @@ use lib.ListN.{length, take}
 use Rattle.std.specs.declared.result.Result.the-variants.{Ok}
 use Rattle.lines.specs.Overwrites.{overwrite}
 use Rattle.lines.specs.declared.line.Line.{Line}
-use Rattle.balance.specs.Admission.{Admitted}
+use Rattle.tables.specs.Admission.{Admitted}
 use Rattle.balance.specs.Balancing.{balancedLines}
 use Rattle.balance.proofs.Lent.{writes, always, number-of, refused, refused-table, done, done-table, done-front}
 use Rattle.balance.proofs.balance.balance.Needs as need

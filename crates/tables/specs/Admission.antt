@@ -13,10 +13,10 @@ use Rattle.lines.specs.declared.line.Line.{Line}
 use Rattle.lines.specs.declared.line.Line.the-variants as line
 use Rattle.nesting.specs.Blocks.{Blocks, last, before, front, behind, replace}
 use Rattle.nesting.specs.Conditions.{unless, first, orFault}
-use Rattle.balance.specs.declared.fault.AdmissionFault.{AdmissionFault}
-use Rattle.balance.specs.declared.fault.AdmissionFault.the-variants as fault
-use Rattle.balance.specs.Balanced.{Lines, stop, does, turn, flat}
-use Rattle.balance.specs.Steps.{steps}
+use Rattle.tables.specs.declared.fault.AdmissionFault.{AdmissionFault}
+use Rattle.tables.specs.declared.fault.AdmissionFault.the-variants as fault
+use Rattle.tables.specs.Lines.{Lines, stop, does, turn, flat}
+use Rattle.tables.specs.Steps.{steps}
 
 -- A table read from its end: a line is put in front of its block, `end` begins a block inside it, and `turn` takes its own.
 unfoldable pub blocks : List Line → Blocks Lines

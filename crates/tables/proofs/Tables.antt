@@ -18,10 +18,10 @@ use Rattle.nesting.specs.Blocks.{Blocks, last, before, front, behind, replace}
 use Rattle.nesting.specs.Conditions.{unless, first}
 use Rattle.nesting.proofs.Blocks.{front-replace, replace-replace, replace-front}
 use Rattle.nesting.proofs.Firsts.{none-both, none-holds, never}
-use Rattle.balance.specs.declared.fault.AdmissionFault.{AdmissionFault}
-use Rattle.balance.specs.declared.fault.AdmissionFault.the-variants as fault
-use Rattle.balance.specs.Balanced.{Lines, stop, does, turn, flat}
-use Rattle.balance.specs.Admission.{blocks, linesOf, lineFault, after, nestingFault, Runs}
+use Rattle.tables.specs.declared.fault.AdmissionFault.{AdmissionFault}
+use Rattle.tables.specs.declared.fault.AdmissionFault.the-variants as fault
+use Rattle.tables.specs.Lines.{Lines, stop, does, turn, flat}
+use Rattle.tables.specs.Admission.{blocks, linesOf, lineFault, after, nestingFault, Runs}
 
 -- what the lines t are, inside d turns: a block, the `end` that closes it, and so on outwards
 abbrev Parsed : ℕ → List Line → Type 0

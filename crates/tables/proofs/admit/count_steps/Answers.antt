@@ -2,9 +2,9 @@ use mathlib.Core.Path.{_≡_, sym, _∙_}
 use native.Mathlib.Omega.{arith}
 use Rattle.std.proofs.shelf.Results.{err-from-errBy}
 use Rattle.nesting.specs.Nesting.{view}
-use Rattle.balance.specs.Counting.{Count}
-use Rattle.balance.proofs.Counts.{count-on, count-fault, count-end}
-use Rattle.balance.proofs.admit.count_steps.Needs as need
+use Rattle.tables.specs.Counting.{Count}
+use Rattle.tables.proofs.Counts.{count-on, count-fault, count-end}
+use Rattle.tables.proofs.admit.count_steps.Needs as need
 
 pub returns-in-Break-steps : need.returns-in-Break-steps
 returns-in-Break-steps c =

@@ -21,14 +21,14 @@ use Rattle.nesting.specs.Capped.{capped}
 use Rattle.nesting.specs.Conditions.{unless, first, orFault, andThen}
 use Rattle.nesting.proofs.Caps.{cap-times}
 use Rattle.nesting.proofs.Firsts.{none-both, none-holds}
-use Rattle.balance.specs.declared.admit.OpenTurn.{OpenTurn}
-use Rattle.balance.specs.declared.fault.AdmissionFault.{AdmissionFault}
-use Rattle.balance.specs.declared.fault.AdmissionFault.the-variants as fault
-use Rattle.balance.specs.Balanced.{Lines, stop, does, turn, flat}
-use Rattle.balance.specs.Steps.{steps}
-use Rattle.balance.specs.Admission.{linesOf, lineFault, after, nestingFault, firstFault, Admitted, Runs, IsTable, admission}
-use Rattle.balance.specs.Counting.{Count, turnSteps, closing, opening, step, finish, count}
-use Rattle.balance.proofs.Tables.{stands, lines-flat, size, length-flat}
+use Rattle.tables.specs.declared.admit.OpenTurn.{OpenTurn}
+use Rattle.tables.specs.declared.fault.AdmissionFault.{AdmissionFault}
+use Rattle.tables.specs.declared.fault.AdmissionFault.the-variants as fault
+use Rattle.tables.specs.Lines.{Lines, stop, does, turn, flat}
+use Rattle.tables.specs.Steps.{steps}
+use Rattle.tables.specs.Admission.{linesOf, lineFault, after, nestingFault, firstFault, Admitted, Runs, IsTable, admission}
+use Rattle.tables.specs.Counting.{Count, turnSteps, closing, opening, step, finish, count}
+use Rattle.tables.proofs.Tables.{stands, lines-flat, size, length-flat}
 
 -- a step refuses with the fault, or leaves d turns open
 abbrev Agrees : Option AdmissionFault → Result Count AdmissionFault → ℕ → Type 0

@@ -8,8 +8,8 @@ use Rattle.std.proofs.shelf.Lists.{at-drop-more, at-drop-all}
 use Rattle.std.specs.declared.result.Result.the-variants.{Ok, Err}
 use Rattle.lines.specs.declared.line.Line.{Line}
 use Rattle.nesting.specs.Conditions.{andThen}
-use Rattle.balance.specs.declared.fault.AdmissionFault.{AdmissionFault}
-use Rattle.balance.specs.Counting.{Count, step, count, finish}
+use Rattle.tables.specs.declared.fault.AdmissionFault.{AdmissionFault}
+use Rattle.tables.specs.Counting.{Count, step, count, finish}
 
 module _ (at : ℕ) (w : Count) (xs : List Line) (i : ℕ) (d : Line) (h : i < length xs) where
   one : count at w (drop i xs) ≡ andThen (step at w (getD xs i d)) (λ next. count (at + 1) next (drop (i + 1) xs))

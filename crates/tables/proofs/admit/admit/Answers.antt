@@ -1,7 +1,7 @@
 use mathlib.Core.Path.{_∙_}
 use native.Mathlib.Omega.{arith}
-use Rattle.balance.proofs.Admits.{admit-short, admit-long, admit-passed, is-table}
-use Rattle.balance.proofs.admit.admit.Needs as need
+use Rattle.tables.proofs.Admits.{admit-short, admit-long, admit-passed, is-table}
+use Rattle.tables.proofs.admit.admit.Needs as need
 
 pub returns-then-table-gt-MAX-TABLE-LINES : need.returns-then-table-gt-MAX-TABLE-LINES
 returns-then-table-gt-MAX-TABLE-LINES c =

@@ -11,9 +11,9 @@ use Rattle.lines.specs.declared.line.Line.{Line}
 use Rattle.lines.specs.declared.line.Line.the-variants as line
 use Rattle.nesting.specs.Capped.{capped}
 use Rattle.nesting.specs.Conditions.{andThen}
-use Rattle.balance.specs.declared.admit.OpenTurn.{OpenTurn}
-use Rattle.balance.specs.declared.fault.AdmissionFault.{AdmissionFault}
-use Rattle.balance.specs.declared.fault.AdmissionFault.the-variants as fault
+use Rattle.tables.specs.declared.admit.OpenTurn.{OpenTurn}
+use Rattle.tables.specs.declared.fault.AdmissionFault.{AdmissionFault}
+use Rattle.tables.specs.declared.fault.AdmissionFault.the-variants as fault
 
 -- Where a pass stands: the open turns, the innermost first, and the steps of the block so far.
 abbrev pub Count : Type 0

@@ -1,0 +1,5 @@
+pub mod Lines
+pub mod Steps
+pub mod Faults
+pub mod Admission
+pub mod Counting
