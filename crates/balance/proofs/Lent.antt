@@ -23,6 +23,7 @@ use Rattle.balance.specs.Writing.{beginning, pass}
 use Rattle.balance.proofs.Passed.{passed}
 use Rattle.tables.proofs.Tables.{lines-flat}
 use Rattle.balance.proofs.Balances.{counted, balanced-short, balanced-admitted}
+use Rattle.balance.proofs.Limits.{balanced-below}
 
 -- what is written for a checked rule
 pub writes : (lines : List Line) → Checked lines → beginning ++ pass [] lines ≡ balancedLines lines
@@ -37,6 +38,7 @@ always lines c =
       short = balanced-short r (is .fits) (subst (λ l. length l ≤ 256) (is .tree) (is .short));
       tree = lines-flat (balanced r);
       counted = ap steps (lines-flat (balanced r)) ∙ counted r;
+      sized = balanced-below lines is;
     }
 
 -- a count of lines that cannot be too large

@@ -2,4 +2,5 @@ pub mod Clears
 pub mod Advances
 pub mod Passed
 pub mod Balances
+pub mod Limits
 pub mod Lent

@@ -7,6 +7,7 @@ use lib.Dec.{ltb}
 use lib.ListN.{length, take, drop}
 use Rattle.std.specs.declared.result.Result.{Result}
 use Rattle.std.specs.declared.result.Result.the-variants.{Ok, Err}
+use Rattle.lines.specs.Sizes.{TableBelow}
 use Rattle.lines.specs.declared.line.Line.{Line}
 use Rattle.rules.specs.Trees.{ruleOf}
 use Rattle.rules.specs.Costs.{balancedCost}
@@ -33,9 +34,11 @@ pub record Written (n : ℕ) (table : List Line) : Type 0 where
   pub within : n ≤ length table
   pub admitted : Admitted (take n table)
 
--- The balanced lines of a checked rule are always admitted, at most 2,400, and take the steps that the rule's cost says.
+-- The balanced lines of a checked rule are always admitted, at most 2,400, and take the steps that the rule's cost says. Their fields are
+-- below 96 and their numbers have at most 32 bits where that holds of the rule's.
 pub record AlwaysAdmitted (lines : List Line) : Type 0 where
   pub admitted : Admitted (balancedLines lines)
   pub short : length (balancedLines lines) ≤ 2400
   pub tree : linesOf (balancedLines lines) ≡ balanced (ruleOf lines)
   pub counted : steps (linesOf (balancedLines lines)) ≡ balancedCost (ruleOf lines)
+  pub sized : TableBelow 96 lines → TableBelow 96 (balancedLines lines)

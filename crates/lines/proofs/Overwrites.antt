@@ -2,11 +2,11 @@
 use mathlib.Core.Path.{_≡_, refl, sym, ap, subst, _∙_}
 use mathlib.Core.List.{List, [], _∷_, _++_}
 use mathlib.Core.Logic.{inl, inr}
-use Prim.Native.Nat.{ℕ, zero, suc, _+_, _-_, _^_, min, _≤_, _<_}
+use Prim.Native.Nat.{ℕ, suc, _+_, _^_, _≤_, _<_}
 use native.Mathlib.Nat.{add-zero}
 use native.Mathlib.Numerals.{add-one}
 use native.Mathlib.Omega.{arith}
-use lib.ListN.{length, set, take, drop, getD}
+use lib.ListN.{length, set, drop, getD}
 use lib.Seq.{sets, sets-eq}
 use Rattle.std.proofs.shelf.Lists.{length-set, length-append, at-drop-more, at-drop-all, set-past}
 use Rattle.std.proofs.shelf.Tests.{cases-lt}

@@ -1,2 +1,3 @@
 pub mod Operations
 pub mod Overwrites
+pub mod Sizes

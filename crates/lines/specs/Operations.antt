@@ -34,6 +34,20 @@ into (op.Xor d a b) x = op.Xor x a b
 into (op.Same d a b) x = op.Same x a b
 into (op.Less d a b) x = op.Less x a b
 
+-- The number in an operation, or 0 where it has none.
+abbrev pub immediate : Operation → ℕ
+immediate (op.Word d n) = n
+immediate (op.Copy d a) = 0
+immediate (op.Not d a) = 0
+immediate (op.Add d a b) = 0
+immediate (op.Sub d a b) = 0
+immediate (op.Mul d a b) = 0
+immediate (op.And d a b) = 0
+immediate (op.Or d a b) = 0
+immediate (op.Xor d a b) = 0
+immediate (op.Same d a b) = 0
+immediate (op.Less d a b) = 0
+
 -- Whether the field is one of the first n.
 abbrev pub under : ℕ → Field → Bool
 under n f = ltb (f .0) n

@@ -1,5 +1,5 @@
 -- The bytes that a listing is made of.
-use Prim.Native.Nat.{ℕ, _^_, _<_, _≤_}
+use Prim.Native.Nat.{ℕ, _<_}
 use mathlib.Core.Bool.{Bool, true, false, _&&_, _||_}
 use mathlib.Core.List.{List, [], _∷_, _++_}
 use mathlib.Core.Logic.{_⊎_, inl, inr, ⊎-elim}
@@ -11,15 +11,16 @@ use Rattle.std.specs.Text.{In, asciiDigit, asciiLower}
 use Rattle.std.specs.Written.{decimal}
 use Rattle.std.specs.shelf.Lists.{All, joined}
 use Rattle.std.specs.shelf.Text.{allDigits}
-use Rattle.std.proofs.shelf.Tests.{and-parts, and-from, eqb-true, leb-true, ne-eqb, or-cases, or-left}
+use Rattle.std.proofs.shelf.Tests.{and-parts, and-from, eqb-true, leb-true, ltb-true, ne-eqb, or-cases, or-left}
 use Rattle.lines.specs.declared.field.Field.{Field}
 use Rattle.lines.specs.declared.operation.Operation.{Operation}
 use Rattle.lines.specs.declared.operation.Operation.the-variants as op
 use Rattle.lines.specs.declared.line.Line.{Line}
 use Rattle.lines.specs.declared.line.Line.the-variants as line
 use Rattle.listing.specs.Listing.{fieldWord, operationWords, lineWords, spacedWord, spaced}
-use Rattle.listing.specs.Sizes.{FieldBelow, Short, FieldsBelow, OperationBelow, LineBelow}
-use Rattle.listing.proofs.Numerals.{numberRoundtrip}
+use Rattle.lines.specs.Operations.{under, under3}
+use Rattle.lines.specs.Sizes.{Short, LineBelow}
+use Rattle.listing.proofs.Numerals.{decimal-digits, decimal-not-empty}
 
 -- Each byte passes a test.
 abbrev pub allBytes : (ℕ → Bool) → List ℕ → Bool
@@ -59,49 +60,45 @@ pub word-bytes : (w : List ℕ) → isWord w ≡ true → allBytes wordByte w �
 word-bytes [] e = refl
 word-bytes (b ∷ bs) e = e
 
--- Numbers and fields are words.
-number-word : (n : ℕ) → n < 2 ^ 64 → isWord (decimal n) ≡ true
-number-word n h = let r = numberRoundtrip n h in word-from (decimal n) (r .some) (digits-wordBytes (decimal n) (r .digits))
-
-field-word : (f : Field) → f .0 < 2 ^ 64 → isWord (fieldWord f) ≡ true
-field-word f h = digits-wordBytes (decimal (f .0)) (numberRoundtrip (f .0) h .digits)
-
 -- Words alone.
 abbrev pub Words : List (List ℕ) → Type 0
 Words ws = All (λ w. isWord w ≡ true) ws
 
--- The words of a line are words, whatever limit its fields have that a number of the program can have.
-module _ (k : ℕ) (limit : k ≤ 2 ^ 64) where
-  field : (f : Field) → FieldBelow k f → isWord (fieldWord f) ≡ true
-  field f h = field-word f (omega arith)
+-- Numbers and fields are words.
+number : (n : ℕ) → Short n → isWord (decimal n) ≡ true
+number n h = word-from (decimal n) (decimal-not-empty n h) (digits-wordBytes (decimal n) (decimal-digits n h))
 
-  number : (n : ℕ) → Short n → isWord (decimal n) ≡ true
-  number n h = number-word n (omega arith)
+field : (f : Field) → under 96 f ≡ true → isWord (fieldWord f) ≡ true
+field f h = digits-wordBytes (decimal (f .0)) (decimal-digits (f .0) (omega (arith, ltb-true (f .0) 96 h)))
 
-  three : (d a b : Field) → FieldsBelow k d a b → Words (fieldWord d ∷ fieldWord a ∷ fieldWord b ∷ [])
-  three d a b h = (field d (h .0), (field a (h .1), (field b (h .2), tt)))
+two : (d a : Field) → (under 96 d && under 96 a) ≡ true → Words (fieldWord d ∷ fieldWord a ∷ [])
+two d a h = let q = and-parts _ _ h in (field d (q .0), (field a (q .1), tt))
 
-  pub operation-words : (o : Operation) → OperationBelow k o → Words (operationWords o)
-  operation-words (op.Word d n) h = (refl, (field d (h .0), (number n (h .1), tt)))
-  operation-words (op.Copy d a) h = (refl, (field d (h .0), (field a (h .1), tt)))
-  operation-words (op.Not d a) h = (refl, (field d (h .0), (field a (h .1), tt)))
-  operation-words (op.Add d a b) h = (refl, three d a b h)
-  operation-words (op.Sub d a b) h = (refl, three d a b h)
-  operation-words (op.Mul d a b) h = (refl, three d a b h)
-  operation-words (op.And d a b) h = (refl, three d a b h)
-  operation-words (op.Or d a b) h = (refl, three d a b h)
-  operation-words (op.Xor d a b) h = (refl, three d a b h)
-  operation-words (op.Same d a b) h = (refl, three d a b h)
-  operation-words (op.Less d a b) h = (refl, three d a b h)
+three : (d a b : Field) → under3 96 d a b ≡ true → Words (fieldWord d ∷ fieldWord a ∷ fieldWord b ∷ [])
+three d a b h = let q = and-parts _ _ h in (field d (q .0), two a b (q .1))
 
-  pub line-words : (l : Line) → LineBelow k l → Words (lineWords l)
-  line-words line.End h = (refl, tt)
-  line-words line.Else h = (refl, tt)
-  line-words line.Break h = (refl, tt)
-  line-words (line.Operation o) h = operation-words o h
-  line-words (line.If a) h = (refl, (field a h, tt))
-  line-words (line.Loop i n) h = (refl, (field i (h .0), (number n (h .1), tt)))
-  line-words (line.Turn i n) h = (refl, (field i (h .0), (number n (h .1), tt)))
+-- The words of a line that a text can write are words.
+operation-words : (o : Operation) → LineBelow 96 (line.Operation o) → Words (operationWords o)
+operation-words (op.Word d n) h = (refl, (field d (h .0), (number n (h .1), tt)))
+operation-words (op.Copy d a) h = (refl, two d a (h .0))
+operation-words (op.Not d a) h = (refl, two d a (h .0))
+operation-words (op.Add d a b) h = (refl, three d a b (h .0))
+operation-words (op.Sub d a b) h = (refl, three d a b (h .0))
+operation-words (op.Mul d a b) h = (refl, three d a b (h .0))
+operation-words (op.And d a b) h = (refl, three d a b (h .0))
+operation-words (op.Or d a b) h = (refl, three d a b (h .0))
+operation-words (op.Xor d a b) h = (refl, three d a b (h .0))
+operation-words (op.Same d a b) h = (refl, three d a b (h .0))
+operation-words (op.Less d a b) h = (refl, three d a b (h .0))
+
+pub line-words : (l : Line) → LineBelow 96 l → Words (lineWords l)
+line-words line.End h = (refl, tt)
+line-words line.Else h = (refl, tt)
+line-words line.Break h = (refl, tt)
+line-words (line.Operation o) h = operation-words o h
+line-words (line.If a) h = (refl, (field a h, tt))
+line-words (line.Loop i n) h = (refl, (field i (h .0), (number n (h .1), tt)))
+line-words (line.Turn i n) h = (refl, (field i (h .0), (number n (h .1), tt)))
 
 -- Words with spaces between them.
 word-in-line : (w : List ℕ) → isWord w ≡ true → allBytes lineByte w ≡ true

@@ -1,46 +1,45 @@
 //! Tables of lines written out as text: a text line for each line, its words with single spaces between them.
 ghost use mathlib.Core.Path.{_≡_};
-ghost use Prim.Native.Nat.{_^_, _<_};
+ghost use Prim.Native.Nat.{_≤_};
 ghost use lib.ListN.{length};
-ghost use Rattle.std.specs.Vec.{made};
+ghost use Rattle.lines.specs.Overwrites.{Wrote};
+ghost use Rattle.lines.specs.Sizes.{TableBelow};
 ghost use Rattle.listing.specs.Listing.{listing};
 ghost use Rattle.listing.specs.Answers.{listed, bufferAfter};
-ghost use Rattle.listing.specs.Writes.{Put};
+ghost use Rattle.listing.specs.RoundTrip.{ReadsBack};
 
 pub mod fault;
 mod line;
-mod put;
+mod number;
 
 use fault::ListFault;
-use line::put_line;
+use line::write_line;
 use lines::line::Line;
 
-/// Writes the lines from the buffer's start on, what has no room left out, and answers how long the listing is. It is refused as soon as
-/// it is longer than the limit, which is the length of a buffer, so that the place behind a line never overflows.
-fn put_lines(buffer: &mut [u8], table: &[Line], limit: usize) -> Result<usize, ListFault>
-    requires { ⌜ limit < 2 ^ 63 ⌝ }
-    ensures answer { λ r. ⌜ r ≡ listed (now (table .entry)) limit ⌝ }
-    ensures text { λ r. ⌜ made r (λ end. Put (now (buffer .entry)) 0 (listing (now (table .entry))) (now (buffer .exit)) end) ⌝ }
+/// Writes the listing, as far as it fits, and answers how many bytes it has.
+fn write_lines(table: &[Line], buffer: &mut [u8]) -> usize
+    ensures { λ r. ⌜ Wrote (now (buffer .entry)) 0 (listing (now (table .entry))) (now (buffer .exit)) r ⌝ }
 {
-    let mut end = 0;
+    let mut next = 0;
     for line in table {
-        end = put_line(buffer, end, line);
-        if end > limit {
-            return Err(ListFault::BufferTooShort);
-        }
+        next = write_line(buffer, next, line);
     }
-    Ok(end)
+    next
 }
 
 /// Writes the listing of a table into the buffer, and answers how many bytes it has. A buffer too short for the whole of it stays as it was.
+/// A table within the limits of a text is what reading the listing gives.
 pub fn list(table: &[Line], buffer: &mut [u8]) -> Result<usize, ListFault>
     ensures answer { λ r. ⌜ r ≡ listed (now (table .entry)) (length (now (buffer .entry))) ⌝ }
     ensures bytes { λ _. ⌜ now (buffer .exit) ≡ bufferAfter (now (table .entry)) (now (buffer .entry)) ⌝ }
+    ensures roundtrip { λ _. ⌜ (TableBelow 96 (now (table .entry)) → length (now (table .entry)) ≤ 2400 → ReadsBack (now (table .entry))) ⌝ }
 {
-    let room = buffer.len();
-    // Nothing is written into an empty buffer: the first pass measures.
-    let _ = put_lines(&mut [], table, room)?;
-    put_lines(buffer, table, room)
+    // Into an empty buffer the bytes are only counted.
+    let needed = write_lines(table, &mut []);
+    if needed > buffer.len() {
+        return Err(ListFault::BufferTooShort);
+    }
+    Ok(write_lines(table, buffer))
 }
 
 #[cfg(test)]

@@ -5,3 +5,4 @@ pub mod Taking
 pub mod LineByLine
 pub mod Filling
 pub mod Seeking
+pub mod Limits

@@ -1,11 +1,13 @@
 use mathlib.Core.Path.{_≡_, refl, sym, ap, _∙_}
 use native.Mathlib.Omega.{arith}
+use lib.ListN.{length}
 use Rattle.std.proofs.shelf.Results.{err-from-errBy}
 use Rattle.std.specs.declared.option.Option.{Option}
 use Rattle.std.specs.declared.option.Option.the-variants.{Some, None}
 use Rattle.std.specs.declared.result.Result.the-variants.{Ok, Err}
 use Rattle.text.specs.Reading.{answer, filled}
 use Rattle.text.proofs.Filling.{Progress, progress-start, progress-at, progress-none, progress-some, open-at, ended-at, reading-is, ended-answer, ended-table, faulty-answer, faulty-table, full-answer, full-table, advances}
+use Rattle.text.proofs.Limits.{limited}
 use Rattle.text.proofs.table.read.Needs as need
 use Rattle.text.proofs.table.read.Needs.{in-Some·else-count-room, in-rest}
 
@@ -51,10 +53,13 @@ returns-in-Break-line c =
     let h = open-at text room old r _ _ _ p (c .loop-reader-test .ensures tt) in
     let q = err-from-errBy (c .from-residual .result) (c .from-residual .ensures .1) in
     let whole = reading-is text room _ (c .min-room .ensures) (c .if-text-gt-MAX-TEXT .left) in
+    let limits = limited text (length old) in
     let value = c .in-Break-line .ensures tt .value in
     record {
       answer = q .1 ∙ ap Err (q .2) ∙ faulty-answer text room old r _ _ _ p h _ value ∙ ap answer whole;
       table = faulty-table text room old r _ _ _ p h _ value ∙ ap (λ w. filled w old) whole;
+      below = limits .below;
+      few = limits .few;
     }
 
 pub returns-then-count-room : need.returns-then-count-room
@@ -66,10 +71,13 @@ returns-then-count-room c =
     let p = c .loop-reader .inv in
     let h = open-at text room old r _ _ _ p (c .loop-reader-test .ensures tt) in
     let whole = reading-is text room _ (c .min-room .ensures) (c .if-text-gt-MAX-TEXT .left) in
+    let limits = limited text (length old) in
     let value = ap Ok (sym (c .in-Some .is)) ∙ c .in-Continue-line .ensures tt .value in
     record {
       answer = full-answer text room old r _ _ _ p h _ value (c .if-count-room .taken) ∙ ap answer whole;
       table = full-table text room old r _ _ _ p h _ value (c .if-count-room .taken) ∙ ap (λ w. filled w old) whole;
+      below = limits .below;
+      few = limits .few;
     }
 
 pub returns : need.returns
@@ -81,7 +89,10 @@ returns c =
     let p = c .loop-reader .inv in
     let h = ended-at text room old r _ _ _ p (c .loop-reader-test .ensures tt) in
     let whole = reading-is text room _ (c .min-room .ensures) (c .if-text-gt-MAX-TEXT .left) in
+    let limits = limited text (length old) in
     record {
       answer = ended-answer text room old r _ _ _ p h ∙ ap answer whole;
       table = ended-table text room old r _ _ _ p h ∙ ap (λ w. filled w old) whole;
+      below = limits .below;
+      few = limits .few;
     }
