@@ -23,14 +23,14 @@ staged (Err e) as-stage next = Err (as-stage e)
 -- A table of lines is checked, and balanced into a table with so many entries: its costs, and how many balanced lines there are.
 abbrev pub balancing : List Line → ℕ → Result (Costs × ℕ) PrepareFault
 balancing lines room =
-  staged (checked lines) fault.Check (λ costs. staged (balanceAnswer (balancedLines lines) room) fault.Balance (λ m. Ok (costs, m)))
+    staged (checked lines) fault.Check (λ costs. staged (balanceAnswer (balancedLines lines) room) fault.Balance (λ m. Ok (costs, m)))
 
 -- What was read is the rule's table, which is checked and balanced.
 abbrev pub readied : Reading → ℕ → Result Prepared PrepareFault
 readied r room =
-  staged (answer r) fault.Read (λ n.
+    staged (answer r) fault.Read (λ n.
     staged (balancing (r .lines) room) (λ e. e) (λ p.
-      Ok (record { «rule_lines» = n; «balanced_lines» = p .1; costs = p .0 })))
+    Ok (record { «rule_lines» = n; «balanced_lines» = p .1; costs = p .0 })))
 
 -- What preparing a text answers, with two tables of so many entries.
 abbrev pub preparing : List ℕ → ℕ → ℕ → Result Prepared PrepareFault

@@ -27,7 +27,8 @@ fn read_sentence(fault: &ReadFault) -> &'static str {
         ReadFault::TextTooLong => "the text has more than 65,536 bytes",
         ReadFault::NoLineWord(_) => "the line does not begin with a line word",
         ReadFault::MissingOperand(_) => "an operand is missing",
-        ReadFault::BadOperand(_) => "an operand is not what the line word asks for, is malformed or is too large",
+        ReadFault::BadOperand(_) =>
+            "an operand is not what the line word asks for, is malformed or is too large",
         ReadFault::ExtraToken(_) => "there is a token too many",
         ReadFault::TooManyLines(_) => "the table has no room for this line",
     }
@@ -54,7 +55,8 @@ fn sentence(fault: &PrepareFault) -> &'static str {
     match fault {
         PrepareFault::Read(fault) => read_sentence(fault),
         PrepareFault::Check(fault) => check_sentence(fault),
-        PrepareFault::Balance(BalanceFault::TableTooShort) => "the table has no room for the balanced lines",
+        PrepareFault::Balance(BalanceFault::TableTooShort) =>
+            "the table has no room for the balanced lines",
     }
 }
 

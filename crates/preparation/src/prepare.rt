@@ -46,5 +46,9 @@ pub fn prepare(text: &[u8], rule: &mut [Line], table: &mut [Line]) -> Result<Pre
 {
     let rule_lines = read(text, rule)?;
     let (costs, balanced_lines) = check_and_balance(&rule[0..rule_lines], table)?;
-    Ok(Prepared { rule_lines, balanced_lines, costs })
+    Ok(Prepared {
+        rule_lines,
+        balanced_lines,
+        costs,
+    })
 }

@@ -1,9 +1,9 @@
 //! Tables and what admission answers.
-use tables::admit::admit;
 use lines::field::Field;
 use lines::line::Line;
 use lines::operation::Operation;
 use std::test::*;
+use tables::admit::admit;
 
 /// 0 and the steps, or the fault's number and place.
 fn outcome(table: &[Line]) -> (u32, usize) {
@@ -39,13 +39,47 @@ fn short_tables() -> Result<(), Fail> {
 }
 
 const OPEN: Line = Line::Turn(Field(0), 1);
+
 const CLOSE: Line = Line::End;
 
-const EIGHT_DEEP: [Line; 16] =
-    [OPEN, OPEN, OPEN, OPEN, OPEN, OPEN, OPEN, OPEN, CLOSE, CLOSE, CLOSE, CLOSE, CLOSE, CLOSE, CLOSE, CLOSE];
+const EIGHT_DEEP: [Line; 16] = [
+    OPEN,
+    OPEN,
+    OPEN,
+    OPEN,
+    OPEN,
+    OPEN,
+    OPEN,
+    OPEN,
+    CLOSE,
+    CLOSE,
+    CLOSE,
+    CLOSE,
+    CLOSE,
+    CLOSE,
+    CLOSE,
+    CLOSE,
+];
 
 const NINE_DEEP: [Line; 18] = [
-    OPEN, OPEN, OPEN, OPEN, OPEN, OPEN, OPEN, OPEN, OPEN, CLOSE, CLOSE, CLOSE, CLOSE, CLOSE, CLOSE, CLOSE, CLOSE, CLOSE,
+    OPEN,
+    OPEN,
+    OPEN,
+    OPEN,
+    OPEN,
+    OPEN,
+    OPEN,
+    OPEN,
+    OPEN,
+    CLOSE,
+    CLOSE,
+    CLOSE,
+    CLOSE,
+    CLOSE,
+    CLOSE,
+    CLOSE,
+    CLOSE,
+    CLOSE,
 ];
 
 #[test]

@@ -17,7 +17,10 @@ fn refusal(table: &[Line]) -> (u32, usize) {
 #[test]
 fn fields_of_any_byte() -> Result<(), Fail> {
     check_eq(refusal(&[Line::If(Field(255))]), (12, 0))?;
-    check_eq(refusal(&[Line::Operation(Operation::Copy(Field(0), Field(200)))]), (12, 0))?;
+    check_eq(
+        refusal(&[Line::Operation(Operation::Copy(Field(0), Field(200)))]),
+        (12, 0),
+    )?;
     check_eq(refusal(&[Line::Turn(Field(255), 0)]), (11, 0))
 }
 

@@ -32,7 +32,12 @@ const CASES: [(&[u8], u8, u32, usize); 26] = [
     (b"loop f0 0\nend", 0, 7, 8),
     (b"loop f1 3\nadd f0 f0 f1\nend", 0, 25, 13),
     (b"loop f1 2\nword f1 50\nadd f0 f0 f1\nend", 0, 29, 18),
-    (b"loop f1 5\nsame f2 f1 f3\nif f2\nbreak\nelse\nend\nadd f0 f0 f1\nend", 0, 102, 26),
+    (
+        b"loop f1 5\nsame f2 f1 f3\nif f2\nbreak\nelse\nend\nadd f0 f0 f1\nend",
+        0,
+        102,
+        26,
+    ),
     (b"loop f0 1000\nend", 0, 1007, 8),
     (b"word f0 1 2", 1, 3, 1),
     (b"turn f0 1\nend", 2, 11, 0),
@@ -66,7 +71,13 @@ fn short_texts() -> Result<(), Fail> {
 }
 
 /// A first text, another so many times, and a last one.
-fn repeated(heap: Global, first: &[u8], middle: &[u8], times: usize, last: &[u8]) -> Result<Vec<u8>, AllocError> {
+fn repeated(
+    heap: Global,
+    first: &[u8],
+    middle: &[u8],
+    times: usize,
+    last: &[u8],
+) -> Result<Vec<u8>, AllocError> {
     let mut text = Vec::new(heap);
     text.extend_from_slice(first)?;
     for _ in 0..times {
@@ -83,11 +94,51 @@ const LONG: [(&[u8], &[u8], usize, &[u8], u8, u32, usize); 10] = [
     (b"", b"not f0 f0\n", 256, b"", 0, 1283, 1283),
     (b"", b"not f0 f0\n", 257, b"", 2, 10, 257),
     (b"", b"else\n", 257, b"", 2, 10, 257),
-    (b"", b"loop f0 1\n", 8, b"end\nend\nend\nend\nend\nend\nend\nend\n", 0, 43, 43),
-    (b"", b"loop f0 1\n", 9, b"end\nend\nend\nend\nend\nend\nend\nend\nend\n", 2, 14, 8),
-    (b"loop f0 1000\nloop f1 10\nadd f2 f2 f1\nend\nend\n", b"", 0, b"", 0, 65_007, 18),
-    (b"loop f0 1000\nloop f1 10\nadd f2 f2 f1\nend\nend\n", b"not f0 f0\n", 105, b"", 0, 65_532, 543),
-    (b"loop f0 1000\nloop f1 10\nadd f2 f2 f1\nend\nend\n", b"not f0 f0\n", 106, b"", 2, 17, 111),
+    (
+        b"",
+        b"loop f0 1\n",
+        8,
+        b"end\nend\nend\nend\nend\nend\nend\nend\n",
+        0,
+        43,
+        43,
+    ),
+    (
+        b"",
+        b"loop f0 1\n",
+        9,
+        b"end\nend\nend\nend\nend\nend\nend\nend\nend\n",
+        2,
+        14,
+        8,
+    ),
+    (
+        b"loop f0 1000\nloop f1 10\nadd f2 f2 f1\nend\nend\n",
+        b"",
+        0,
+        b"",
+        0,
+        65_007,
+        18,
+    ),
+    (
+        b"loop f0 1000\nloop f1 10\nadd f2 f2 f1\nend\nend\n",
+        b"not f0 f0\n",
+        105,
+        b"",
+        0,
+        65_532,
+        543,
+    ),
+    (
+        b"loop f0 1000\nloop f1 10\nadd f2 f2 f1\nend\nend\n",
+        b"not f0 f0\n",
+        106,
+        b"",
+        2,
+        17,
+        111,
+    ),
 ];
 
 #[test]
@@ -96,7 +147,10 @@ fn long_texts(rt: LibcRuntime) -> Result<(), Fail> {
     let mut table = vec![in rt.alloc(); Line::Break; 2400]?;
     for (first, middle, times, last, stage, number, place) in LONG {
         let text = repeated(rt.alloc(), first, middle, times, last)?;
-        check_eq(outcome(&text, &mut rule, &mut table), (stage, number, place))?;
+        check_eq(
+            outcome(&text, &mut rule, &mut table),
+            (stage, number, place),
+        )?;
     }
     Ok(())
 }
@@ -108,7 +162,8 @@ fn listing_of_a_prepared_rule() -> Result<(), Fail> {
     let mut buffer = [b'#'; 125];
     check_eq(outcome(b"word f0 7", &mut rule, &mut table), (0, 8, 8))?;
     check(list(&table[0..8], &mut buffer).is_ok())?;
-    let listed = b"word f64 0\nword f65 1\nsub f68 f64 f65\nword f66 7\nand f66 f66 f68\nnot f67 f68\nand f67 f67 f0\nor f0 f66 f67\n";
+    let listed =
+        b"word f64 0\nword f65 1\nsub f68 f64 f65\nword f66 7\nand f66 f66 f68\nnot f67 f68\nand f67 f67 f0\nor f0 f66 f67\n";
     check(buffer.starts_with(listed))
 }
 
@@ -121,7 +176,10 @@ fn refusals_leave_the_tables() -> Result<(), Fail> {
     check(rule == [Line::End, Line::Else, Line::Break])?;
     check(table == [Line::Break; 8])?;
     // One balanced line too many for the second table, then just enough room.
-    check_eq(outcome(b"not f0 f0\n", &mut rule, &mut table[0..7]), (3, 20, 0))?;
+    check_eq(
+        outcome(b"not f0 f0\n", &mut rule, &mut table[0..7]),
+        (3, 20, 0),
+    )?;
     check(table == [Line::Break; 8])?;
     check_eq(outcome(b"not f0 f0\n", &mut rule, &mut table), (0, 8, 8))
 }

@@ -4,17 +4,17 @@ ghost use Rattle.std.specs.Vec.{made};
 ghost use Rattle.rules.specs.Checks.{checked, Checked, IsRule};
 ghost use Rattle.nesting.specs.Nesting.{view};
 ghost use Rattle.rules.specs.Passes.{plus, ifCosts, loopCosts, opening, halving, closing, breaking, step, standing, start, pass, finish};
+use crate::fault::CheckFault;
+use lines::line::Line;
 use nesting::capped::capped_product;
 use nesting::capped::capped_sum;
-use crate::fault::CheckFault;
+use nesting::limits::MAX_ROUNDS;
+use nesting::limits::MAX_STEPS;
 use nesting::open::Frame;
 use nesting::open::Open;
 use nesting::open::loop_level;
-use nesting::limits::MAX_ROUNDS;
-use nesting::limits::MAX_STEPS;
 use nesting::stack::DEPTH;
 use nesting::stack::Stack;
-use lines::line::Line;
 
 /// The most lines of a rule.
 pub const MAX_RULE_LINES: usize = 256;
