@@ -9,7 +9,7 @@ const LAST_FIELD: u32 = 95;
 const LAST_NUMBER: u64 = 4_294_967_295;
 
 /// The number that the bytes write in decimal.
-pub fn number_of(part: &[u8]) -> Option<u32>
+pub(crate) fn number_of(part: &[u8]) -> Option<u32>
     ensures { λ r. ⌜ r ≡ numberOf (now (part .entry)) ⌝ }
 {
     if part.len() == 0 || part.len() > 1 && part[0] == b'0' {
@@ -20,7 +20,7 @@ pub fn number_of(part: &[u8]) -> Option<u32>
 }
 
 /// The field that the bytes name.
-pub fn field_of(part: &[u8]) -> Option<Field>
+pub(crate) fn field_of(part: &[u8]) -> Option<Field>
     ensures { λ r. ⌜ r ≡ fieldOf (now (part .entry)) ⌝ }
 {
     if part.len() == 0 || part[0] != b'f' {

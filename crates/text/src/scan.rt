@@ -6,14 +6,14 @@ ghost use lib.ListN.{length, drop};
 ghost use Rattle.text.specs.TextLines.{lineLength, nextLine};
 ghost use Rattle.text.specs.Tokens.{blanks, solids, isBlank, isSolid};
 
-pub const LINE_END: u8 = b'\n';
+pub(crate) const LINE_END: u8 = b'\n';
 
 const COMMENT: u8 = b';';
 
 const BLANK: u8 = b' ';
 
 /// The place after the blanks.
-pub fn past_blanks(text: &[u8], at: usize) -> usize
+pub(crate) fn past_blanks(text: &[u8], at: usize) -> usize
     ensures value { λ r. ⌜ r ≡ at + blanks (drop at (now (text .entry))) ⌝ }
 {
     let mut i = at;
@@ -24,7 +24,7 @@ pub fn past_blanks(text: &[u8], at: usize) -> usize
 }
 
 /// The place after the bytes of a token, or the same place where there is none.
-pub fn past_solids(text: &[u8], at: usize) -> usize
+pub(crate) fn past_solids(text: &[u8], at: usize) -> usize
     ensures value { λ r. ⌜ r ≡ at + solids (drop at (now (text .entry))) ⌝ }
     ensures within { λ r. ⌜ (at < r → r ≤ length (now (text .entry))) ⌝ }
 {
@@ -36,7 +36,7 @@ pub fn past_solids(text: &[u8], at: usize) -> usize
 }
 
 /// The place of the line's end.
-pub fn line_end(text: &[u8], at: usize) -> usize
+pub(crate) fn line_end(text: &[u8], at: usize) -> usize
     ensures value { λ r. ⌜ r ≡ at + lineLength (drop at (now (text .entry))) ⌝ }
     ensures within { λ r. ⌜ (at < r → r ≤ length (now (text .entry))) ⌝ }
 {
@@ -48,7 +48,7 @@ pub fn line_end(text: &[u8], at: usize) -> usize
 }
 
 /// The place after the line's end.
-pub fn past_line(text: &[u8], at: usize) -> usize
+pub(crate) fn past_line(text: &[u8], at: usize) -> usize
     ensures value { λ r. ⌜ r ≡ nextLine (now (text .entry)) at ⌝ }
 {
     let end = line_end(text, at);
