@@ -2,21 +2,21 @@
 use Rattle.std.proofs.Common.{◌≡◌, ℕ, zero, suc, ◌+◌, ◌-◌, ◌*◌, ◌<◌, ◌≤◌, Bool, true, false, ◌&&◌, ltb, List, [], ◌∷◌, length, None, sym, refl, ap, ◌∙◌, subst, add-one, arith}
 use Rattle.std.proofs.lemmas.Bool.{lt-ltb, ltb-true, and_parts, and_from}
 use Rattle.lines.specs.Operations.{destination, into, under, under3, within}
-use Rattle.lines.proofs.Limits.{at_most_lem}
 use Rattle.lines.specs.declared.field.Field.{Field}
 use Rattle.lines.specs.declared.operation.Operation.{Operation}
 use Rattle.lines.specs.declared.operation.Operation.TheVariants as op
 use Rattle.lines.specs.declared.line.Line.{Line}
 use Rattle.rules.specs.Trees as rule
 use Rattle.rules.specs.Trees.{Rule, Fits, StandsFor, rule_of}
-use Rattle.rules.specs.Costs.{block_cost, balanced_cost, block_lines, line_count}
-use Rattle.lines.specs.Conditions.{unless, first, at_most}
+use Rattle.rules.specs.Costs.{block_cost, balanced_cost}
+use Rattle.nesting.specs.Conditions.{unless, first}
 use Rattle.rules.specs.Checks.{IsRule}
+use Rattle.rules.proofs.Costed as rules
 use Rattle.balance.specs.Fields.{f, mask, choice, saved}
-use Rattle.tables.specs.Lines.{Lines, stop, does, turn, flat, lines_of}
+use Rattle.tables.specs.Lines.{Lines, stop, does, turn, flat}
 use Rattle.balance.specs.Balanced.{clears, balance, balanced, balanced_table}
 use Rattle.tables.specs.Steps.{steps}
-use Rattle.tables.specs.Admission.{Runs, nesting_fault, first_fault, Admitted}
+use Rattle.tables.specs.Admission.{Runs, lines_of, nesting_fault, first_fault, Admitted}
 use Rattle.tables.specs.declared.fault.AdmissionFault.TheVariants as fault
 use Rattle.tables.proofs.Tables.{size, length-flat, lines_flat, faultless}
 
@@ -166,30 +166,35 @@ unfolding size clears
 clears_size zero r l = omega arith
 clears_size (suc n) r l = let h = clears_size n (r + 1) l in omega arith
 
--- the lines that are written for a rule are as many as its cost says
-balance_size : (c : Rule) (k j : ℕ) (l : Lines) → j ≤ k → size (balance c k j l) ≡ block_lines c k j + size l
-unfolding size balance block_lines
-balance_size rule.done k j l g = omega arith
-balance_size (rule.op o c) k j l g = let h = balance_size c k j l g in omega arith
-balance_size (rule.when a p q c) k j l g =
+-- each line of a rule becomes nine at most
+grown : (c : Rule) (k j : ℕ) (l : Lines) → Fits c k j → k ≤ 8 → j ≤ k → size (balance c k j l) ≤ 9 * rules.size c + size l
+unfolding size balance rules.size
+grown rule.done k j l t h g = omega arith
+grown (rule.op o c) k j l t h g = let y = grown c k j l t.1 h g in omega arith
+grown (rule.when a p q c) k j l t h g =
     let one = add-one k in
-    let h1 = balance_size p (k + 1) j (does (op.Not (f 66) (choice (k + 1))) (does (op.And (mask (k + 1)) (mask k) (f 66)) (balance q (k + 1) j (balance c k j l)))) (omega arith) in
-    let h2 = balance_size q (k + 1) j (balance c k j l) (omega arith) in
-    let h3 = balance_size c k j l g in
-    let e1 = ap (λ n. block_lines p n j) one in
-    let e2 = ap (λ n. block_lines q n j) one in omega arith
-balance_size (rule.loop i n b c) k j l g =
+    let z = grown c k j l t.4 h g in
+    let y = grown q (k + 1) j (balance c k j l) (subst (λ n. Fits q n j) (sym one) t.3) (omega (arith, t.1)) (omega arith) in
+    let x = grown p (k + 1) j (does (op.Not (f 66) (choice (k + 1))) (does (op.And (mask (k + 1)) (mask k) (f 66)) (balance q (k + 1) j (balance c k j l))))
+    (subst (λ n. Fits p n j) (sym one) t.2) (omega (arith, t.1)) (omega arith) in
+    omega arith
+grown (rule.loop i n b c) k j l t h g =
     let one = add-one k in
-    let h1 = balance_size b (k + 1) (k + 1) stop (omega arith) in
-    let h2 = balance_size c k j l g in
-    let e1 = ap (λ m. block_lines b m m) one in omega arith
-balance_size (rule.break c) k j l g =
-    let h1 = clears_size (k + 1 - j) j (balance c k j l) in
-    let h2 = balance_size c k j l g in omega arith
+    let z = grown c k j l t.4 h g in
+    let y = grown b (k + 1) (k + 1) stop (subst (λ m. Fits b m m) (sym one) t.3) (omega (arith, t.1)) (omega arith) in
+    omega arith
+grown (rule.break c) k j l t h g =
+    let x = clears_size (k + 1 - j) j (balance c k j l) in
+    let y = grown c k j l t.1 h g in
+    omega (arith, t.0)
 
-pub lines_counted : (c : Rule) → length (balanced_table c) ≡ line_count c
-unfolding size balanced line_count
-lines_counted c = let h = balance_size c 0 0 stop (omega arith) in omega (arith, length-flat (balanced c) [])
+pub balanced_short : (c : Rule) → Fits c 0 0 → length (rule.flat c []) ≤ 256 → length (balanced_table c) ≤ 2400
+unfolding size balanced
+balanced_short c t h =
+    let x = grown c 0 0 stop t (omega arith) (omega arith) in
+    let y = length-flat (balanced c) [] in
+    let z = rules.length-flat c [] in
+    omega arith
 
 -- the balanced table of a checked rule is always admitted
 pub balanced_admitted : (lines : List Line) → IsRule lines → Admitted (balanced_table (rule_of lines))
@@ -197,13 +202,13 @@ unfolding nesting_fault
 balanced_admitted lines is =
     let c = rule_of lines in
     let t = balanced_table c in
-    let short = at_most_lem 2400 (length t) (omega (arith, lines_counted c, is.few)) in
+    let short = lt-ltb (length t) 2401 (omega (arith, balanced_short c is.fits (subst (λ l. length l ≤ 256) is.tree is.short))) in
     let nests : nesting_fault 0 0 t ≡ None = faultless (balanced c) 0 0 [] (balanced_runs c is.fits) in
     let same : steps (lines_of t) ≡ balanced_cost c = ap steps (lines_flat (balanced c)) ∙ counted c in
-    let cheap = at_most_lem 65535 (steps (lines_of t)) (omega (arith, same, is.cheap)) in
+    let cheap = lt-ltb (steps (lines_of t)) 65536 (omega (arith, same, is.cheap)) in
     record {
       faultless =
-          ap (λ b. first (unless b (fault.TooManyLines (length t))) (first (nesting_fault 0 0 t) (unless (at_most 65535 (steps (lines_of t))) (fault.TooManySteps (length t))))) short
-          ∙ ap (λ o. first o (unless (at_most 65535 (steps (lines_of t))) (fault.TooManySteps (length t)))) nests
+          ap (λ b. first (unless b (fault.TooManyLines (length t))) (first (nesting_fault 0 0 t) (unless (ltb (steps (lines_of t)) 65536) (fault.TooManySteps (length t))))) short
+          ∙ ap (λ o. first o (unless (ltb (steps (lines_of t)) 65536) (fault.TooManySteps (length t)))) nests
           ∙ ap (λ b. unless b (fault.TooManySteps (length t))) cheap;
     }

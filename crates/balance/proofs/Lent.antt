@@ -1,27 +1,22 @@
 -- The lent table after balancing.
-use Rattle.std.proofs.Common.{◌≡◌, ℕ, ◌+◌, ◌-◌, ◌^◌, ◌<◌, ◌≤◌, min, leb, List, [], ◌∷◌, ◌++◌, length, take, drop, Ok, Err, sym, refl, ap, ◌∙◌, subst, arith}
-use Rattle.std.proofs.lemmas.Bool.{le-leb, lt-leb, cond-true, cond-false}
+use Rattle.std.proofs.Common.{◌≡◌, ℕ, ◌+◌, ◌-◌, ◌^◌, ◌<◌, ◌≤◌, min, ltb, List, [], ◌∷◌, ◌++◌, length, take, drop, Ok, Err, sym, refl, ap, ◌∙◌, subst, arith}
+use Rattle.std.proofs.lemmas.Bool.{lt-ltb, le-ltb, cond-true, cond-false}
 use Rattle.std.proofs.lemmas.List.{take_at}
-use Rattle.std.specs.List.{AllByRecursion as All}
-use Rattle.lines.specs.Sizes.{OperationShort, TableBelow}
 use Rattle.lines.specs.Overwrites.{overwrite, Wrote}
 use Rattle.lines.specs.declared.line.Line.{Line}
 use Rattle.lines.proofs.Overwrites.{overwrite-front}
 use Rattle.rules.specs.Trees.{rule_of}
-use Rattle.rules.specs.declared.rule.CheckedRule.{CheckedRule}
-use Rattle.rules.specs.CheckedRules.{rule_lines_of, IsChecked}
 use Rattle.rules.specs.Checks.{Checked, IsRule}
 use Rattle.rules.proofs.Checked.{is_rule}
 use Rattle.balance.specs.declared.fault.BalanceFault.TheVariants.{TableTooShort}
 use Rattle.balance.specs.Balanced.{balanced, balanced_table}
 use Rattle.tables.specs.Steps.{steps}
-use Rattle.tables.specs.Admission.{Admitted}
-use Rattle.tables.specs.Lines.{lines_of}
-use Rattle.balance.specs.Balancing.{balanced_lines_of, fits, balance_answer, table_after, AlwaysAdmitted}
+use Rattle.tables.specs.Admission.{lines_of, Admitted}
+use Rattle.balance.specs.Balancing.{balanced_lines_of, balance_answer, table_after, AlwaysAdmitted}
 use Rattle.balance.specs.Writing.{beginning, pass}
 use Rattle.balance.proofs.Passed.{passed}
 use Rattle.tables.proofs.Tables.{lines_flat}
-use Rattle.balance.proofs.Balances.{counted, lines_counted, balanced_admitted}
+use Rattle.balance.proofs.Balances.{counted, balanced_short, balanced_admitted}
 use Rattle.balance.proofs.Limits.{balanced-below}
 
 -- what is written for a checked rule
@@ -34,17 +29,11 @@ always lines c =
     let r = rule_of lines in
     record {
       admitted = balanced_admitted lines is;
-      short = omega (arith, lines_counted r, is.few);
+      short = balanced_short r is.fits (subst (λ l. length l ≤ 256) is.tree is.short);
       tree = lines_flat (balanced r);
       counted = ap steps (lines_flat (balanced r)) ∙ counted r;
+      sized = balanced-below lines is;
     }
-
-pub sized : (lines : List Line) → Checked lines → All OperationShort lines → TableBelow 96 (balanced_lines_of lines)
-sized lines c short = balanced-below lines (is_rule lines c) short
-
--- how many lines a checked rule says that it needs
-pub needs : (r : CheckedRule) → IsChecked r → r.costs.lines ≡ length (balanced_lines_of (rule_lines_of r))
-needs r c = ap (λ k. k.lines) c.costs ∙ sym (lines_counted (rule_of (rule_lines_of r)))
 
 -- a count of lines that cannot be too large
 pub number_of : (lines : List Line) (t u : List Line) (n : ℕ) → Checked lines → Wrote t 0 (beginning ++ pass [] lines) u n → n ≡ length (balanced_lines_of lines)
@@ -55,16 +44,16 @@ number_of lines t u n c w =
 
 module _ (out table : List Line) where
   pub refused : length table < length out → Err TableTooShort ≡ balance_answer out (length table)
-  refused h = sym (cond-false (fits out (length table)) _ _ (lt-leb _ _ h))
+  refused h = sym (cond-true (ltb (length table) (length out)) _ _ (lt-ltb _ _ h))
 
   pub refused_table : length table < length out → table ≡ table_after out table
-  refused_table h = sym (cond-false (fits out (length table)) _ _ (lt-leb _ _ h))
+  refused_table h = sym (cond-true (ltb (length table) (length out)) _ _ (lt-ltb _ _ h))
 
   pub done : length out ≤ length table → Ok (length out) ≡ balance_answer out (length table)
-  done h = sym (cond-true (fits out (length table)) _ _ (le-leb _ _ h))
+  done h = sym (cond-false (ltb (length table) (length out)) _ _ (le-ltb _ _ h))
 
   pub done_table : length out ≤ length table → overwrite table 0 out ≡ table_after out table
-  done_table h = overwrite-front table out h ∙ sym (cond-true (fits out (length table)) _ _ (le-leb _ _ h))
+  done_table h = overwrite-front table out h ∙ sym (cond-false (ltb (length table) (length out)) _ _ (le-ltb _ _ h))
 
   pub done_front : length out ≤ length table → take (length out) (overwrite table 0 out) ≡ out
   done_front h = ap (take (length out)) (overwrite-front table out h) ∙ take_at out (drop (length out) table) (length out) refl

@@ -12,7 +12,7 @@ use Rattle.rules.specs.Trees.{Rule}
 use Rattle.balance.specs.Fields.{f, mask, choice, saved}
 use Rattle.tables.specs.Lines.{Lines, stop, does, turn, flat}
 use Rattle.balance.specs.Balanced.{clears, balance, balanced, balanced_table}
-use Rattle.balance.specs.Writing.{doing, clearing, ending, ending_of, operating, choosing, otherwise, looping, breaking, written, pass, beginning}
+use Rattle.balance.specs.Writing.{doing, clearing, ending, ending_of, operating, choosing, turning, looping, breaking, written, pass, beginning}
 
 pub pass_none : (st : List Open) → pass st [] ≡ []
 unfolding pass
@@ -42,7 +42,7 @@ pass_is (rule.when a p q r) l st m t e =
     pass_is q (line.End ∷ rule.flat r l) (open_is.Else ∷ st) (balance r k j m) t hr ∙ ap (λ n. flat (balance q n j (balance r k j m)) t) (sym one) in
     let second = does (op.Not (f 66) (choice (k + 1))) (does (op.And (mask (k + 1)) (mask k) (f 66)) (balance q (k + 1) j (balance r k j m))) in
     let hp : pass (open_is.Then ∷ st) (rule.flat p (line.Else ∷ rule.flat q (line.End ∷ rule.flat r l))) ≡ flat (balance p (k + 1) j second) t =
-    pass_is p (line.Else ∷ rule.flat q (line.End ∷ rule.flat r l)) (open_is.Then ∷ st) second t (ap (λ z. otherwise k ++ z) hq)
+    pass_is p (line.Else ∷ rule.flat q (line.End ∷ rule.flat r l)) (open_is.Then ∷ st) second t (ap (λ z. turning k ++ z) hq)
     ∙ ap (λ n. flat (balance p n j second) t) (sym one) in
     ap (λ z. choosing k a ++ z) hp
 pass_is (rule.loop i n b r) l st m t e =

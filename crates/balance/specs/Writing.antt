@@ -22,13 +22,12 @@ abbrev pub clearing : ℕ → ℕ → List Line
 clearing r zero = []
 clearing r (suc n) = doing (op.And (mask r) (mask r) (f 66)) ∷ clearing (r + 1) n
 
--- The end of an open line at level k.
+-- The end of the innermost open line, which is at level k.
 abbrev pub ending : Open → ℕ → List Line
 ending open_is.Then k = []
 ending open_is.Else k = []
 ending (open_is.Loop i n) k = line.End ∷ (doing (op.Copy i (saved (k + 1))) ∷ [])
 
--- The end of the innermost open line, if there is one.
 abbrev pub ending_of : List Open → List Line
 ending_of [] = []
 ending_of (o ∷ st) = ending o (length st)
@@ -43,8 +42,8 @@ abbrev pub choosing : ℕ → Field → List Line
 choosing k a = doing (op.Same (f 66) a (f 64)) ∷ (doing (op.Sub (choice (k + 1)) (f 66) (f 65)) ∷ (doing (op.And (mask (k + 1)) (mask k) (choice (k + 1))) ∷ []))
 
 -- The lines of the `else` of an `if` at level k.
-abbrev pub otherwise : ℕ → List Line
-otherwise k = doing (op.Not (f 66) (choice (k + 1))) ∷ (doing (op.And (mask (k + 1)) (mask k) (f 66)) ∷ [])
+abbrev pub turning : ℕ → List Line
+turning k = doing (op.Not (f 66) (choice (k + 1))) ∷ (doing (op.And (mask (k + 1)) (mask k) (f 66)) ∷ [])
 
 -- The lines of a loop at level k.
 abbrev pub looping : ℕ → Field → ℕ → List Line
@@ -58,7 +57,7 @@ breaking k j = doing (op.Not (f 66) (mask k)) ∷ clearing j (k + 1 - j)
 abbrev pub written : List Open → Line → List Line
 written st (line.Operation o) = operating (length st) o
 written st (line.If a) = choosing (length st) a
-written st line.Else = otherwise (length (below st))
+written st line.Else = turning (length (below st))
 written st line.End = ending_of st
 written st (line.Loop i n) = looping (length st) i n
 written st line.Break = breaking (length st) (loop_level st)

@@ -1,27 +1,23 @@
 ghost use Rattle.std.specs.Prelude.{◌≡◌, [], ◌++◌, length, IfOk, None};
-ghost use Rattle.std.specs.List.{AllByRecursion as All};
-ghost use Rattle.lines.specs.Overwrites.{Wrote};
-ghost use Rattle.lines.specs.Sizes.{OperationShort};
+ghost use Rattle.nesting.specs.Nesting.{view};
 ghost use Rattle.nesting.specs.Levels.{opens};
-ghost use Rattle.nesting.specs.Nesting.{held};
-ghost use Rattle.rules.specs.CheckedRules.{IsChecked, rule_lines_of};
+ghost use Rattle.lines.specs.Overwrites.{Wrote};
 ghost use Rattle.rules.specs.Checks.{after, nesting_fault};
+ghost use Rattle.rules.specs.Checks.{Checked};
 ghost use Rattle.balance.specs.Balancing.{balanced_lines_of, balance_answer, table_after, Written, AlwaysAdmitted};
-ghost use Rattle.balance.specs.Nested.{Nested};
 ghost use Rattle.balance.specs.Writing.{pass, beginning};
+ghost use Rattle.balance.specs.Nested.{Nested};
 
 use crate::fault::BalanceFault;
 use crate::write::{write_beginning, write_line};
 use lines::line::Line;
 use nesting::open::{Frame, Open};
 use nesting::stack::Stack;
-use rules::rule::CheckedRule;
 
 /// Writes the balanced lines of a checked rule's block, as far as they fit, and answers where the next would go.
 fn write_lines(lines: &[Line], table: &mut [Line], at: usize) -> usize
     requires { nesting_fault 0 [] lines.now ≡ None }
-    ensures wrote { Wrote table.old at (pass [] lines.now) table.new result }
-    ensures short { All OperationShort lines.now }
+    ensures { Wrote table.old at (pass [] lines.now) table.new result }
 {
     let mut stack = Stack::new(Frame {
         part: Open::Then,
@@ -37,8 +33,8 @@ fn write_lines(lines: &[Line], table: &mut [Line], at: usize) -> usize
 
 /// Keeps track of the open lines past one line of a checked rule.
 fn advance(stack: &mut Stack<Frame<()>>, line: &Line)
-    requires { Nested (opens (held stack.old)) line.now }
-    ensures { opens (held stack.new) ≡ after (opens (held stack.old)) line.now }
+    requires { Nested (opens (view stack.old.items stack.old.depth)) line.now }
+    ensures { opens (view stack.new.items stack.new.depth) ≡ after (opens (view stack.old.items stack.old.depth)) line.now }
 {
     match line {
         Line::If(_) => {
@@ -72,24 +68,24 @@ fn advance(stack: &mut Stack<Frame<()>>, line: &Line)
 /// Writes the balanced lines of a checked rule, as far as they fit, and answers how many there are.
 fn write_rule(lines: &[Line], table: &mut [Line]) -> usize
     requires { nesting_fault 0 [] lines.now ≡ None }
-    ensures wrote { Wrote table.old 0 (beginning ++ pass [] lines.now) table.new result }
-    ensures short { All OperationShort lines.now }
+    ensures { Wrote table.old 0 (beginning ++ pass [] lines.now) table.new result }
 {
     let next = write_beginning(table);
     write_lines(lines, table, next)
 }
 
-/// Balances a checked rule into the lent table, and answers how many lines it wrote. A table too short for all of them stays as it was.
-pub fn balance(rule: &CheckedRule, table: &mut [Line]) -> Result<usize, BalanceFault>
-    requires { IsChecked rule.now }
-    ensures answer { result ≡ balance_answer (balanced_lines_of (rule_lines_of rule.now)) (length table.old) }
-    ensures table { table.new ≡ table_after (balanced_lines_of (rule_lines_of rule.now)) table.old }
-    ensures written { IfOk result (λ n. Written (rule_lines_of rule.now) n table.new) }
-    ensures always { AlwaysAdmitted (rule_lines_of rule.now) }
+/// Balances a checked rule into the lent table, and answers how many lines it wrote.
+pub fn balance(lines: &[Line], table: &mut [Line]) -> Result<usize, BalanceFault>
+    requires { Checked lines.now }
+    ensures answer { result ≡ balance_answer (balanced_lines_of lines.now) (length table.old) }
+    ensures table { table.new ≡ table_after (balanced_lines_of lines.now) table.old }
+    ensures written { IfOk result (λ n. Written n table.new) }
+    ensures always { AlwaysAdmitted lines.now }
 {
-    let needed = rule.costs().lines as usize;
+    // Into a table of no entries the lines are only counted.
+    let needed = write_rule(lines, &mut []);
     if needed > table.len() {
         return Err(BalanceFault::TableTooShort);
     }
-    Ok(write_rule(rule.lines(), table))
+    Ok(write_rule(lines, table))
 }

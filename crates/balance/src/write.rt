@@ -1,11 +1,9 @@
-ghost use Rattle.std.specs.Prelude.{◌≡◌, ◌+◌, ◌-◌, ◌≤◌};
-ghost use Rattle.lines.specs.Operations.{immediate};
+ghost use Rattle.std.specs.Prelude.{◌≡◌, ◌+◌, ◌-◌, ◌≤◌, []};
 ghost use Rattle.lines.specs.Overwrites.{Wrote};
-ghost use Rattle.lines.specs.Sizes.{OperationShort, Short};
-ghost use Rattle.nesting.specs.Nesting.{held};
+ghost use Rattle.nesting.specs.Nesting.{view};
 ghost use Rattle.nesting.specs.Levels.{opens};
 ghost use Rattle.balance.specs.Fields.{mask, choice, saved};
-ghost use Rattle.balance.specs.Writing.{beginning, operating, choosing, otherwise, looping, ending, ending_of, clearing, breaking, written};
+ghost use Rattle.balance.specs.Writing.{beginning, operating, choosing, turning, looping, ending, ending_of, clearing, breaking, written};
 
 use lines::field::Field;
 use lines::line::Line;
@@ -47,7 +45,7 @@ fn saved(level: usize) -> Field
     Field(84 + level as u8)
 }
 
-/// The fields that hold 0 and 1, and the mask of level 0, which is all ones.
+/// The masks of level 0 count everywhere.
 pub(crate) fn write_beginning(table: &mut [Line]) -> usize
     ensures { Wrote table.old 0 beginning table.new result }
 {
@@ -62,8 +60,7 @@ pub(crate) fn write_beginning(table: &mut [Line]) -> usize
 /// The operation is done on the side, and kept only under the mask: elsewhere the old word stays.
 fn write_operation(table: &mut [Line], at: usize, level: usize, operation: Operation) -> usize
     requires { level ≤ 8 }
-    ensures wrote { Wrote table.old at (operating level operation) table.new result }
-    ensures short { Short (immediate operation) }
+    ensures { Wrote table.old at (operating level operation) table.new result }
 {
     let d = operation.destination();
     let mask = mask(level);
@@ -94,7 +91,7 @@ fn write_if(table: &mut [Line], at: usize, level: usize, tested: Field) -> usize
 /// The second part counts where the first did not.
 fn write_else(table: &mut [Line], at: usize, level: usize) -> usize
     requires { level ≤ 8 }
-    ensures { Wrote table.old at (otherwise level) table.new result }
+    ensures { Wrote table.old at (turning level) table.new result }
 {
     let lines = [
         Line::Operation(Operation::Not(RESULT, choice(level + 1))),
@@ -134,9 +131,8 @@ fn write_end(table: &mut [Line], at: usize, level: usize, part: Open) -> usize
     }
 }
 
-/// The end of the innermost open line; nothing where none is open.
 fn write_close<T: Copy>(table: &mut [Line], at: usize, stack: &Stack<Frame<T>>) -> usize
-    ensures { Wrote table.old at (ending_of (opens (held stack.now))) table.new result }
+    ensures { Wrote table.old at (ending_of (opens (view stack.now.items stack.now.depth))) table.new result }
 {
     match stack.peek(0) {
         Some(frame) => write_end(table, at, stack.len().saturating_sub(1), frame.part),
@@ -181,8 +177,7 @@ pub(crate) fn write_line<T: Copy>(
     stack: &Stack<Frame<T>>,
     line: &Line,
 ) -> usize
-    ensures wrote { Wrote table.old at (written (opens (held stack.now)) line.now) table.new result }
-    ensures short { OperationShort line.now }
+    ensures { Wrote table.old at (written (opens (view stack.now.items stack.now.depth)) line.now) table.new result }
 {
     let level = stack.len();
     match line {

@@ -1,4 +1,3 @@
-pub mod Conditions
 pub mod Operations
 pub mod Overwrites
 pub mod Sizes

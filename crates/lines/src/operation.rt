@@ -1,6 +1,5 @@
-ghost use Rattle.std.specs.Prelude.{◌≡◌};
-ghost use Rattle.lines.specs.Operations.{destination, into, within, immediate};
-ghost use Rattle.lines.specs.Sizes.{Short};
+ghost use Rattle.std.specs.Prelude.{◌≡◌, Bool};
+ghost use Rattle.lines.specs.Operations.{destination, into, within};
 
 use crate::field::Field;
 
@@ -44,10 +43,9 @@ impl Operation {
         }
     }
 
-    /// The same operation, its result put into another field. The number that it holds has, as its type says, at most 32 bits.
+    /// The same operation, its result put into another field.
     pub fn into_field(self, d: Field) -> Operation
-        ensures value { result ≡ into self d }
-        ensures short { Short (immediate self) }
+        ensures { result ≡ into self d }
     {
         match self {
             Operation::Word(_, n) => Operation::Word(d, n),

@@ -6,8 +6,8 @@ use Rattle.std.proofs.lemmas.Fmt.{decimal_digit, decimal_nonempty, first_decimal
 use Rattle.std.proofs.lemmas.Str.Parse.{IsNumeralModel, tells_all_ascii_digits, numerals_by_fold}
 use Rattle.std.proofs.lemmas.Bool.{and_left, and_right, cases_Bool, cases_lt, eqb-true, le-leb, le-ltb, ne_eqb}
 use Rattle.lines.specs.Sizes.{Short}
-use Rattle.tokens.specs.Keywords.{keyword_of}
-use Rattle.tokens.specs.Numerals.{value_after, decimal_value, leading_zero, number_of, field_numbered, field_of}
+use Rattle.text.specs.Keywords.{keyword_of}
+use Rattle.text.specs.Numerals.{value_after, decimal_value, leading_zero, number_of, field_numbered, field_of}
 
 -- The reader sums up digits from the left.
 read_digits : IsNumeralModel (λ ds. all_ascii_digits ds ≡ true) decimal_value

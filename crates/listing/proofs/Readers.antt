@@ -4,10 +4,10 @@ use Rattle.std.proofs.lemmas.List.{take_at, drop_at}
 use Rattle.std.proofs.lemmas.Bool.{and_parts, and_from, not_from_false, or_from, or_left, false≢true}
 use Rattle.lines.specs.Sizes.{TableBelow}
 use Rattle.lines.specs.declared.line.Line.{Line}
-use Rattle.tokens.specs.Meanings.{meaning, meanings}
-use Rattle.tokens.specs.TextLines.{in_front, text_lines}
-use Rattle.tokens.specs.Tokens.{is_solid, solid_first, solids, tokens}
-use Rattle.tokens.proofs.Lexing.{tokens_first, solids_none}
+use Rattle.text.specs.Meanings.{meaning, meanings}
+use Rattle.text.specs.TextLines.{in_front, text_lines}
+use Rattle.text.specs.Tokens.{is_solid, solid_first, solids, tokens}
+use Rattle.text.proofs.Lexing.{tokens_first, solids_none}
 use Rattle.listing.specs.Listing.{line_words, spaced, listing}
 use Rattle.listing.proofs.Alphabet.{all_bytes, word_byte, is_word, line_byte, Words, word_bytes, line_words_lem, spaced_bytes, word_byte_not_blank, line_byte_no_end, line_byte_no_comment}
 

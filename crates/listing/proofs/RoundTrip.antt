@@ -1,7 +1,7 @@
 -- A table that a text can write reads back from its listing.
-use Rattle.std.proofs.Common.{◌≡◌, ℕ, ◌+◌, ◌*◌, ◌≤◌, true, cond, ◌&&◌, List, [], ◌∷◌, ◌++◌, map, length, codes, decimal, refl, ap, ◌∙◌, arith, lit≤, length-append}
+use Rattle.std.proofs.Common.{◌≡◌, ℕ, ◌+◌, ◌-◌, ◌*◌, ◌≤◌, min, true, cond, ◌&&◌, List, [], ◌∷◌, ◌++◌, map, length, Some, None, Ok, codes, decimal, refl, ap, ◌∙◌, arith, lit≤, length-append}
 use Rattle.std.specs.List.{flat_map}
-use Rattle.std.proofs.lemmas.Bool.{and_parts, ltb-true}
+use Rattle.std.proofs.lemmas.Bool.{and_parts, le-ltb, ltb-true, ne_eqb}
 use Rattle.lines.specs.Operations.{under, under3}
 use Rattle.lines.specs.Sizes.{Short, LineBelow, TableBelow}
 use Rattle.lines.specs.declared.field.Field.{Field}
@@ -9,27 +9,30 @@ use Rattle.lines.specs.declared.operation.Operation.{Operation}
 use Rattle.lines.specs.declared.operation.Operation.TheVariants as op
 use Rattle.lines.specs.declared.line.Line.{Line}
 use Rattle.lines.specs.declared.line.Line.TheVariants as line
-use Rattle.tokens.specs.Meanings.{meanings}
-use Rattle.text.specs.RuleTexts.{line_tokens, tokenized, Writes}
-use Rattle.text.proofs.RuleTexts.{pieces_some, accepts}
-use Rattle.tokens.specs.Tokens.{tokens}
+use Rattle.text.specs.Meanings.{meanings}
+use Rattle.text.specs.Operands.{line_read}
+use Rattle.text.specs.Reading.{Reading, refused, preceded, entered, read_lines}
+use Rattle.text.specs.TextLines.{text_lines}
+use Rattle.text.specs.Tokens.{tokens}
+use Rattle.text.specs.declared.fault.ReadFault.TheVariants as fault
 use Rattle.listing.specs.Listing.{field_word, line_words, spaced_word, spaced, line_bytes, listing}
 use Rattle.listing.specs.RoundTrip.{ReadsBack}
 use Rattle.listing.proofs.Alphabet.{line_words_lem}
 use Rattle.listing.proofs.Numbers.{length_field, length_word}
 use Rattle.listing.proofs.Readers.{line_text, listing_lines, words_mean}
-use Rattle.listing.proofs.ReadBack.{line_means}
+use Rattle.listing.proofs.ReadBack.{words_back}
 
 -- Line by line.
-line_means_tokens : (l : Line) → LineBelow 96 l → meanings (tokens 0 (line_text l)) ≡ line_tokens l
-line_means_tokens l h = words_mean 0 (line_words l) (line_words_lem l h) ∙ line_means l h
+line_back : (n : ℕ) (l : Line) → LineBelow 96 l → line_read n (meanings (tokens 0 (line_text l))) ≡ Ok (Some l)
+line_back n l h = ap (line_read n) (words_mean 0 (line_words l) (line_words_lem l h)) ∙ words_back n l h
 
-lines_mean : (t : List Line) → TableBelow 96 t → tokenized (map line_text t) ≡ map line_tokens t
-lines_mean [] h = refl
-lines_mean (l ∷ t) h =
-    let first = line_means_tokens l h.0 in
-    ap (λ b. cond b (meanings (tokens 0 (line_text l)) ∷ tokenized (map line_text t)) (tokenized (map line_text t))) (pieces_some (tokens 0 (line_text l)) l first)
-    ∙ ap (λ ms. ms ∷ tokenized (map line_text t)) first ∙ ap (λ ms. line_tokens l ∷ ms) (lines_mean t h.1)
+lines_back : (room n : ℕ) (t : List Line) → TableBelow 96 t → length t ≤ room → read_lines room n (map line_text t) ≡ record { lines = t; fault = None }
+lines_back room n [] h few = refl
+lines_back room n (l ∷ t) h few =
+    let rest : ℕ → Reading = λ left. read_lines left (n + 1) (map line_text t) in
+    ap (λ r. entered room n r rest) (line_back n l h.0)
+    ∙ ap (λ b. cond b (refused (fault.TooManyLines n)) (preceded l (rest (room - 1)))) (ne_eqb room 0 (omega arith))
+    ∙ ap (preceded l) (lines_back (room - 1) (n + 1) t h.1 (omega arith))
 
 -- How long the words of a line are, each with the byte after it.
 abbrev words_length : List (List ℕ) → ℕ
@@ -90,17 +93,11 @@ line_short (line.If a) h = one_short (codes "if") (lit≤ tt) a h
 line_short (line.Loop i n) h = counted_short (codes "loop") (lit≤ tt) i n h
 line_short (line.Turn i n) h = counted_short (codes "turn") (lit≤ tt) i n h
 
-pub listing_short : (t : List Line) → TableBelow 96 t → length (listing t) ≤ 20 * length t
+listing_short : (t : List Line) → TableBelow 96 t → length (listing t) ≤ 20 * length t
 listing_short [] h = omega arith
 listing_short (l ∷ t) h = omega (arith, length-append (line_bytes l) (listing t), line_short l h.0, listing_short t h.1)
 
--- The listing is a text that writes the table, and so reading accepts it.
-writes_back : (t : List Line) → TableBelow 96 t → length t ≤ 2400 → Writes (listing t) t
-writes_back t h few = record {
-  short = omega (arith, listing_short t h);
-  few = few;
-  lines = ap tokenized (listing_lines t h) ∙ lines_mean t h;
-}
-
 pub reads_back : (t : List Line) → TableBelow 96 t → length t ≤ 2400 → ReadsBack t
-reads_back t h few room fits = (accepts (listing t) room).complete t (writes_back t h few) fits
+reads_back t h few room fits =
+    ap (λ b. cond b (refused fault.TextTooLong) (read_lines (min room 2400) 1 (text_lines (listing t)))) (le-ltb 65536 (length (listing t)) (omega (arith, listing_short t h)))
+    ∙ ap (read_lines (min room 2400) 1) (listing_lines t h) ∙ lines_back (min room 2400) 1 t h (omega arith)

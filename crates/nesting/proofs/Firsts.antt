@@ -1,6 +1,6 @@
 -- No fault of several is none of each.
 use Rattle.std.proofs.Common.{◌≡◌, ℕ, Bool, true, false, Some, None, Option, refl, arith}
-use Rattle.lines.specs.Conditions.{unless, first}
+use Rattle.nesting.specs.Conditions.{unless, first}
 
 pub none_both : {F : Type 0} (a b : Option F) → first a b ≡ None → (a ≡ None) × (b ≡ None)
 none_both None b e = (refl, e)

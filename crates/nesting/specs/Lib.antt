@@ -1,4 +1,5 @@
 pub mod Nesting
 pub mod Levels
 pub mod Capped
+pub mod Conditions
 pub mod Blocks

@@ -1,14 +1,9 @@
 -- What is open around a line, kept as a stack.
-use Rattle.std.specs.Prelude.{ℕ, List, [], ◌∷◌, reverse, take, Some, None, Option}
-use Rattle.nesting.specs.declared.stack.Stack.{Stack}
+use Rattle.std.specs.Prelude.{ℕ, Bool, ltb, List, [], ◌∷◌, reverse, length, take, Some, None, Option}
 
 -- What a stack holds, the topmost first: its first `depth` items, the last one on top.
 abbrev pub view : {T : Type 0} → List T → ℕ → List T
 view items depth = reverse (take depth items)
-
--- The same of a stack of the program.
-abbrev pub held : {T : Type 0} → Stack T → List T
-held s = view s.items s.depth
 
 -- The topmost, if there is one.
 abbrev pub top : {T : Type 0} → List T → Option T

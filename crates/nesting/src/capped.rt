@@ -1,10 +1,8 @@
 ghost use Rattle.std.specs.Prelude.{◌≡◌, ◌+◌, ◌*◌};
 ghost use Rattle.nesting.specs.Capped.{capped};
 
-use crate::limits::MAX_STEPS;
-
 /// Steps are cut off here: any more is too many all the same, and so no sum or product is ever too large.
-const CAP: u32 = MAX_STEPS + 1;
+const CAP: u32 = 65_536;
 
 /// The sum, cut off.
 pub fn capped_sum(a: u32, b: u32) -> u32

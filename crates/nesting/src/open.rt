@@ -1,5 +1,5 @@
-ghost use Rattle.std.specs.Prelude.{◌≡◌};
-ghost use Rattle.nesting.specs.Nesting.{held};
+ghost use Rattle.std.specs.Prelude.{◌≡◌, map};
+ghost use Rattle.nesting.specs.Nesting.{view};
 ghost use Rattle.nesting.specs.Levels.{loop_level, loops, opens};
 
 use crate::stack::Stack;
@@ -39,7 +39,7 @@ fn is_loop<T: Copy>(frame: Option<Frame<T>>) -> bool
 
 /// The level of the innermost loop's body, or 0 where no loop is open.
 pub fn loop_level<T: Copy>(stack: &Stack<Frame<T>>) -> usize
-    ensures { result ≡ loop_level (opens (held stack.now)) }
+    ensures { result ≡ loop_level (opens (view stack.now.items stack.now.depth)) }
 {
     let depth = stack.len();
     for i in 0..depth {

@@ -1,26 +1,16 @@
-//! What is said of a refusal: the line that reports it, a sentence for a person, and the line of the text that is at fault.
-
-ghost use Rattle.std.specs.Prelude.{◌≡◌, Some};
-ghost use Rattle.preparation.specs.Explaining.{fault_where, line_at, shown_line, seen_line, read_sentence, check_sentence, balance_sentence, sentence};
-ghost use Rattle.preparation.specs.Faults.{refusal_line};
+ghost use Rattle.std.specs.Prelude.{◌≡◌};
+ghost use Rattle.preparation.specs.Explaining.{fault_line};
 
 use crate::fault::PrepareFault;
 use balance::fault::BalanceFault;
 use rules::fault::CheckFault;
 use std::fmt;
 use text::fault::ReadFault;
-use text::text_lines::{line_text, text_line_of};
+use text::text_lines::text_line_of;
 
-/// A line of a text, with its number from 1.
-#[derive(Clone, Copy)]
-pub struct FaultLine<'a> {
-    pub number: usize,
-    pub text: &'a [u8],
-}
-
-/// The number of the text line that is at fault; none where no one line is.
-fn line_number(fault: &PrepareFault, text: &[u8]) -> Option<usize>
-    ensures { result ≡ line_at text.now (fault_where fault.now) }
+/// The number, from 1, of the text line that is at fault; none where no one line is.
+pub fn fault_line(fault: &PrepareFault, text: &[u8]) -> Option<usize>
+    ensures { result ≡ fault_line text.now fault.now }
 {
     match fault {
         PrepareFault::Read(ReadFault::TextTooLong) => None,
@@ -33,19 +23,7 @@ fn line_number(fault: &PrepareFault, text: &[u8]) -> Option<usize>
     }
 }
 
-/// The line of the text that is at fault; none where no one line is.
-pub fn fault_line<'a>(fault: &PrepareFault, text: &'a [u8]) -> Option<FaultLine<'a>>
-    ensures { seen_line result ≡ shown_line text.now (line_at text.now (fault_where fault.now)) }
-{
-    let number = line_number(fault, text)?;
-    let text = line_text(text, number)?;
-    Some(FaultLine { number, text })
-}
-
-/// What is wrong with a text that is not read.
-fn read_sentence(fault: &ReadFault) -> &'static str
-    ensures { result.now ≡ read_sentence fault.now }
-{
+fn read_sentence(fault: &ReadFault) -> &'static str {
     match fault {
         ReadFault::TextTooLong => "the text has more than 65,536 bytes",
         ReadFault::NoLineWord(_) => "the line does not begin with a line word",
@@ -57,15 +35,12 @@ fn read_sentence(fault: &ReadFault) -> &'static str
     }
 }
 
-/// What is wrong with a table that is no rule.
-fn check_sentence(fault: &CheckFault) -> &'static str
-    ensures { result.now ≡ check_sentence fault.now }
-{
+fn check_sentence(fault: &CheckFault) -> &'static str {
     match fault {
         CheckFault::TooManyLines(_) => "the rule has more than 256 lines",
         CheckFault::TurnInRule(_) => "a rule has no `turn`",
         CheckFault::FieldOffCard(_) => "a field is over f63",
-        CheckFault::StrayElse(_) => "the `else` does not stand directly in an `if`",
+        CheckFault::StrayElse(_) => "the innermost open line is no `if`",
         CheckFault::SecondElse(_) => "the `if` has an `else` already",
         CheckFault::StrayEnd(_) => "no line is open here",
         CheckFault::MissingElse(_) => "the `if` has no `else`",
@@ -77,46 +52,18 @@ fn check_sentence(fault: &CheckFault) -> &'static str
     }
 }
 
-/// Why a rule is not balanced.
-fn balance_sentence(fault: &BalanceFault) -> &'static str
-    ensures { result.now ≡ balance_sentence fault.now }
-{
-    match fault {
-        BalanceFault::TableTooShort => "the table has no room for the balanced lines",
-    }
-}
-
-/// What is wrong, whatever stage refuses.
-fn sentence(fault: &PrepareFault) -> &'static str
-    ensures { result.now ≡ sentence fault.now }
-{
+fn sentence(fault: &PrepareFault) -> &'static str {
     match fault {
         PrepareFault::Read(fault) => read_sentence(fault),
         PrepareFault::Check(fault) => check_sentence(fault),
-        PrepareFault::Balance(fault) => balance_sentence(fault),
+        PrepareFault::Balance(BalanceFault::TableTooShort) =>
+            "the table has no room for the balanced lines",
     }
 }
 
 /// A plain sentence that says what is wrong.
 impl fmt::Display for PrepareFault {
-    ghost output = { λ fault. Some (sentence fault) };
-
     fn fmt<W: fmt::Write>(&self, f: &mut fmt::Formatter<W>) -> fmt::Result {
         f.write_str(sentence(self))
-    }
-}
-
-/// The line that reports a refusal, `refused STAGE NUMBER PLACE`.
-#[derive(Clone, Copy)]
-pub struct Refusal(pub PrepareFault);
-
-impl fmt::Display for Refusal {
-    ghost output = { λ refusal. Some (refusal_line refusal.0) };
-
-    fn fmt<W: fmt::Write>(&self, f: &mut fmt::Formatter<W>) -> fmt::Result {
-        let stage = self.0.stage().name();
-        let number = self.0.number();
-        let place = self.0.place();
-        write!(f, "refused {stage} {number} {place}")
     }
 }

@@ -1,14 +1,13 @@
-ghost use Rattle.std.specs.Prelude.{◌≡◌, ◌≤◌, length, take, IfOk, IfErr};
-ghost use Rattle.rules.specs.Checks.{checked};
+ghost use Rattle.std.specs.Prelude.{◌≡◌, length, IfOk};
+ghost use Rattle.rules.specs.Checks.{Checked, checked};
+ghost use Rattle.balance.specs.Balancing.{Written};
 ghost use Rattle.text.specs.Reading.{reading, filled};
-ghost use Rattle.preparation.specs.Explaining.{Explained};
-ghost use Rattle.preparation.specs.Preparing.{balancing, checked_after, preparing, second_table, Balanced, Ready};
+ghost use Rattle.preparation.specs.Preparing.{balancing, checked_after, preparing, second_table, Ready};
 
 use crate::fault::PrepareFault;
 use balance::balance::balance;
 use lines::line::Line;
-use rules::check::check;
-use rules::costs::Costs;
+use rules::check::{Costs, check};
 use text::table::read;
 
 /// What was prepared: how many lines of each lent table it fills, and what the rule costs.
@@ -23,7 +22,7 @@ pub struct Prepared {
 fn check_and_balance(lines: &[Line], table: &mut [Line]) -> Result<(Costs, usize), PrepareFault>
     ensures answer { result ≡ balancing lines.now (length table.old) }
     ensures table { table.new ≡ checked_after (checked lines.now) lines.now table.old }
-    ensures ready { IfOk result (λ p. (p.1 ≤ length table.new) × Balanced lines.now (take p.1 table.new) p.0) }
+    ensures ready { IfOk result (λ p. Checked lines.now × Written p.1 table.new) }
 {
     let costs = check(lines)?;
     let balanced_lines = balance(lines, table)?;
@@ -37,7 +36,6 @@ pub fn prepare(text: &[u8], rule: &mut [Line], table: &mut [Line]) -> Result<Pre
     ensures rule { rule.new ≡ filled (reading text.now (length rule.old)) rule.old }
     ensures table { table.new ≡ second_table text.now (length rule.old) table.old }
     ensures ready { IfOk result (λ p. Ready p rule.new table.new) }
-    ensures explained { IfErr result (λ fault. Explained text.now fault) }
 {
     let rule_lines = read(text, rule)?;
     let (costs, balanced_lines) = check_and_balance(&rule[0..rule_lines], table)?;

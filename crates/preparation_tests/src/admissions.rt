@@ -2,7 +2,6 @@
 use lines::field::Field;
 use lines::line::Line;
 use lines::operation::Operation;
-use std::alloc::{AllocError, Global};
 use std::test::Fail;
 use tables::admit::admit;
 
@@ -39,23 +38,24 @@ fn short_tables(rt: HostRuntime) {
     assert_eq!(rt; outcome(&[turn(1001), Line::End]), (35, 0));
 }
 
-/// So many turns of one round, one inside the other.
-fn nested(heap: Global, depth: usize) -> Result<Vec<Line>, AllocError> {
-    let mut table = Vec::new(heap);
-    for _ in 0..depth {
-        table.push(turn(1))?;
-    }
-    for _ in 0..depth {
-        table.push(Line::End)?;
-    }
-    Ok(table)
-}
+const OPEN: Line = Line::Turn(Field(0), 1);
+
+const CLOSE: Line = Line::End;
+
+const EIGHT_DEEP: [Line; 16] = [
+    OPEN, OPEN, OPEN, OPEN, OPEN, OPEN, OPEN, OPEN, CLOSE, CLOSE, CLOSE, CLOSE, CLOSE, CLOSE,
+    CLOSE, CLOSE,
+];
+
+const NINE_DEEP: [Line; 18] = [
+    OPEN, OPEN, OPEN, OPEN, OPEN, OPEN, OPEN, OPEN, OPEN, CLOSE, CLOSE, CLOSE, CLOSE, CLOSE, CLOSE,
+    CLOSE, CLOSE, CLOSE,
+];
 
 #[test]
-fn nested_turns(rt: HostRuntime) -> Result<(), Fail> {
-    assert_eq!(rt; outcome(&nested(rt.alloc(), 8)?), (0, 16));
-    assert_eq!(rt; outcome(&nested(rt.alloc(), 9)?), (34, 8));
-    Ok(())
+fn nested_turns(rt: HostRuntime) {
+    assert_eq!(rt; outcome(&EIGHT_DEEP), (0, 16));
+    assert_eq!(rt; outcome(&NINE_DEEP), (34, 8));
 }
 
 #[test]

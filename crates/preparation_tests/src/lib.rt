@@ -3,8 +3,6 @@
 #[cfg(test)]
 mod admissions;
 #[cfg(test)]
-mod explanations;
-#[cfg(test)]
 mod rules;
 #[cfg(test)]
 mod texts;

@@ -8,12 +8,12 @@ use Rattle.nesting.specs.declared.open.Open.TheVariants as open_is
 use Rattle.nesting.specs.declared.open.Frame.{Frame}
 use Rattle.rules.specs.declared.fault.CheckFault.{CheckFault}
 use Rattle.rules.specs.declared.fault.CheckFault.TheVariants as fault
-use Rattle.rules.specs.declared.costs.Costs.{Costs}
+use Rattle.rules.specs.declared.check.Costs.{Costs}
 use Rattle.rules.specs.declared.check.Sums.{Sums}
 use Rattle.nesting.specs.Levels.{opens, loop_level}
 use Rattle.rules.specs.Checks.{else_fault, end_fault, line_fault, after, nesting_fault}
 use Rattle.rules.specs.Passes.{Walk, free, plus, opening, else_of, halving, end_of, closing, breaking, step, finish, pass}
-use Rattle.lines.specs.Conditions.{unless, first, and_then, at_most}
+use Rattle.nesting.specs.Conditions.{unless, first, and_then}
 use Rattle.nesting.proofs.Levels.{length-opens}
 
 -- a step refuses with the fault, or leaves the lines os open
@@ -56,7 +56,7 @@ loop_agrees at n o w true true e =
     (deeper, ap (λ b. cond b (Ok deeper) (Err (fault.TooDeep at))) (sym e), refl)
 
 pub agrees : (at : ℕ) (st : List (Frame Sums)) (c : Costs) (x : Line) → Agrees (line_fault at (opens st) x) (step at (st, c) x) (after (opens st) x)
-agrees at st c (line.Operation o) = last_test (within 64 o) (fault.FieldOffCard at) (st, plus c 1 5 5)
+agrees at st c (line.Operation o) = last_test (within 64 o) (fault.FieldOffCard at) (st, plus c 1 5)
 agrees at st c (line.If a) = first_test (under 64 a) (fault.FieldOffCard at) _ _ _ (opens_agree at open_is.Then (st, c))
 agrees at [] c line.Else = refl
 agrees at (f ∷ st) c line.Else = else_agrees at f.part f.kept st c
@@ -64,12 +64,12 @@ agrees at [] c line.End = refl
 agrees at (f ∷ st) c line.End = end_agrees at f.part f.kept st c
 agrees at st c (line.Loop i n) =
     let deep = ltb (length st) 8 in
-    let test = first (unless deep (fault.TooDeep at)) (unless (at_most 1000 n) (fault.TooManyRounds at)) in
+    let test = first (unless deep (fault.TooDeep at)) (unless (ltb n 1001) (fault.TooManyRounds at)) in
     first_test (under 64 i) (fault.FieldOffCard at) _ _ _
-    (subst (λ k. Agrees (first (unless (ltb k 8) (fault.TooDeep at)) (unless (at_most 1000 n) (fault.TooManyRounds at)))
-    (cond deep (cond (at_most 1000 n) (opening at (open_is.Loop i n) (st, c)) (Err (fault.TooManyRounds at))) (Err (fault.TooDeep at))) (open_is.Loop i n ∷ opens st))
-    (sym (length-opens st)) (loop_agrees at n (open_is.Loop i n) (st, c) deep (at_most 1000 n) refl))
-agrees at st c line.Break = last_test (ltb 0 (loop_level (opens st))) (fault.BreakOutsideLoop at) (st, plus c 1 (length st - loop_level (opens st) + 2) (length st - loop_level (opens st) + 2))
+    (subst (λ k. Agrees (first (unless (ltb k 8) (fault.TooDeep at)) (unless (ltb n 1001) (fault.TooManyRounds at)))
+    (cond deep (cond (ltb n 1001) (opening at (open_is.Loop i n) (st, c)) (Err (fault.TooManyRounds at))) (Err (fault.TooDeep at))) (open_is.Loop i n ∷ opens st))
+    (sym (length-opens st)) (loop_agrees at n (open_is.Loop i n) (st, c) deep (ltb n 1001) refl))
+agrees at st c line.Break = last_test (ltb 0 (loop_level (opens st))) (fault.BreakOutsideLoop at) (st, plus c 1 (length st - loop_level (opens st) + 2))
 agrees at st c (line.Turn i n) = refl
 
 -- where the conditions find a fault, the pass refuses with it

@@ -1,8 +1,7 @@
 -- A table without a nesting fault is the table of a tree, and a table is the table of one tree at most.
-use Rattle.std.proofs.Common.{◌≡◌, ℕ, zero, suc, ◌+◌, ◌<◌, ◌≤◌, Bool, true, false, cond, ltb, List, [], ◌∷◌, length, Some, None, Option, sym, refl, ap, ◌∙◌, arith}
+use Rattle.std.proofs.Common.{◌≡◌, ℕ, zero, suc, ◌+◌, ◌<◌, Bool, true, false, cond, ltb, List, [], ◌∷◌, length, Some, None, Option, sym, refl, ap, ◌∙◌, arith}
 use Rattle.std.proofs.lemmas.Bool.{ltb-true}
 use Rattle.lines.specs.Operations.{within, under}
-use Rattle.lines.proofs.Limits.{at_most_holds}
 use Rattle.lines.specs.declared.field.Field.{Field}
 use Rattle.lines.specs.declared.operation.Operation.{Operation}
 use Rattle.lines.specs.declared.line.Line.{Line}
@@ -17,7 +16,7 @@ use Rattle.rules.specs.Trees.{Rule, done, op, when, loop, break, flat, Fits, blo
 use Rattle.nesting.specs.Blocks.{Blocks, last, before, front, behind, replace}
 use Rattle.nesting.proofs.Blocks.{front-replace, replace-replace, replace-front}
 use Rattle.rules.specs.Checks.{line_fault, after, nesting_fault}
-use Rattle.lines.specs.Conditions.{unless, first, at_most}
+use Rattle.nesting.specs.Conditions.{unless, first}
 use Rattle.nesting.proofs.Firsts.{none_both, none_holds, never}
 
 -- what the lines l are, inside st: a block, what closes it, and so on outwards
@@ -46,13 +45,13 @@ if_holds at st a e =
     let b = none_both (unless (under 64 a) (fault.FieldOffCard at)) (unless (ltb (length st) 8) (fault.TooDeep at)) e in
     (none_holds (under 64 a) _ b.0, ltb-true _ _ (none_holds (ltb (length st) 8) _ b.1))
 
-pub loop_holds : (at : ℕ) (st : List Open) (i : Field) (n : ℕ) → line_fault at st (line.Loop i n) ≡ None → (under 64 i ≡ true) × (length st < 8) × (n ≤ 1000)
+pub loop_holds : (at : ℕ) (st : List Open) (i : Field) (n : ℕ) → line_fault at st (line.Loop i n) ≡ None → (under 64 i ≡ true) × (length st < 8) × (n < 1001)
 loop_holds at st i n e =
     let deep = unless (ltb (length st) 8) (fault.TooDeep at) in
-    let long = unless (at_most 1000 n) (fault.TooManyRounds at) in
+    let long = unless (ltb n 1001) (fault.TooManyRounds at) in
     let b = none_both (unless (under 64 i) (fault.FieldOffCard at)) (first deep long) e in
     let c = none_both deep long b.1 in
-    (none_holds (under 64 i) _ b.0, ltb-true _ _ (none_holds (ltb (length st) 8) _ c.0), at_most_holds 1000 n (none_holds (at_most 1000 n) _ c.1))
+    (none_holds (under 64 i) _ b.0, ltb-true _ _ (none_holds (ltb (length st) 8) _ c.0), ltb-true _ _ (none_holds (ltb n 1001) _ c.1))
 
 pub parsed : (l : List Line) (at : ℕ) (st : List Open) → nesting_fault at st l ≡ None → Parsed st l
 unfolding flat nesting_fault

@@ -7,11 +7,11 @@ use Rattle.std.proofs.lemmas.Bool.{lt-ltb}
 use Rattle.nesting.specs.declared.open.Open.{Open}
 use Rattle.nesting.specs.declared.open.Open.TheVariants as open_is
 use Rattle.nesting.specs.declared.open.Frame.{Frame}
-use Rattle.rules.specs.declared.costs.Costs.{Costs}
+use Rattle.rules.specs.declared.check.Costs.{Costs}
 use Rattle.rules.specs.declared.check.Sums.{Sums}
 use Rattle.nesting.specs.Nesting.{top, below}
 use Rattle.rules.specs.Passes.{free, halving, else_of, Walk, step, pass, finish}
-use Rattle.lines.specs.Conditions.{and_then}
+use Rattle.nesting.specs.Conditions.{and_then}
 
 -- after a pop there is room for a push
 pub halved : (at : ℕ) (c : Costs) (st rest out : List (Frame Sums)) (f g : Frame Sums) (r : Bool) → Some f ≡ top st → rest ≡ below st → f.part ≡ open_is.Then → length st ≤ 8 →

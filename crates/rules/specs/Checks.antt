@@ -7,12 +7,12 @@ use Rattle.nesting.specs.declared.open.Open.{Open}
 use Rattle.nesting.specs.declared.open.Open.TheVariants as open_is
 use Rattle.rules.specs.declared.fault.CheckFault.{CheckFault}
 use Rattle.rules.specs.declared.fault.CheckFault.TheVariants as fault
-use Rattle.rules.specs.declared.costs.Costs.{Costs}
-use Rattle.lines.specs.Conditions.{unless, first, or_fault, at_most}
+use Rattle.rules.specs.declared.check.Costs.{Costs}
+use Rattle.nesting.specs.Conditions.{unless, first, or_fault}
 use Rattle.nesting.specs.Nesting.{below}
 use Rattle.nesting.specs.Levels.{loop_level}
 use Rattle.rules.specs.Trees.{Rule, StandsFor, Fits, rule_of}
-use Rattle.rules.specs.Costs.{plain_cost, balanced_cost, line_count}
+use Rattle.rules.specs.Costs.{plain_cost, balanced_cost}
 
 -- `else` fits an open `if` that had none yet.
 abbrev pub else_fault : ℕ → List Open → Option CheckFault
@@ -28,8 +28,8 @@ end_fault at (open_is.Then ∷ st) = Some (fault.MissingElse at)
 end_fault at (open_is.Else ∷ st) = None
 end_fault at (open_is.Loop i n ∷ st) = None
 
--- The first of these that line `at` breaks, inside the open lines st, the innermost first: a rule has no `turn`; its fields are of the card; `else`
--- and `end` fit what is open; a line opens at a level below 8; a `break` is inside a loop; a loop has at most 1,000 rounds.
+-- The first condition that line `at` meets, inside the open lines st, the innermost first: its fields are of the card, it fits what is open,
+-- it opens at a level below 8, a `break` is inside a loop, and a loop has at most 1,000 rounds.
 abbrev pub line_fault : ℕ → List Open → Line → Option CheckFault
 line_fault at st (line.Operation o) = unless (within 64 o) (fault.FieldOffCard at)
 line_fault at st (line.If a) = first (unless (under 64 a) (fault.FieldOffCard at)) (unless (nat_lt (length st) 8) (fault.TooDeep at))
@@ -37,7 +37,7 @@ line_fault at st line.Else = else_fault at st
 line_fault at st line.End = end_fault at st
 line_fault at st (line.Loop i n) =
     first (unless (under 64 i) (fault.FieldOffCard at))
-    (first (unless (nat_lt (length st) 8) (fault.TooDeep at)) (unless (at_most 1000 n) (fault.TooManyRounds at)))
+    (first (unless (nat_lt (length st) 8) (fault.TooDeep at)) (unless (nat_lt n 1001) (fault.TooManyRounds at)))
 line_fault at st line.Break = unless (nat_lt 0 (loop_level st)) (fault.BreakOutsideLoop at)
 line_fault at st (line.Turn i n) = Some (fault.TurnInRule at)
 
@@ -60,28 +60,25 @@ nesting_fault at st (x ∷ xs) = first (line_fault at st x) (nesting_fault (at +
 -- The first fault of a table: too many lines before all others, then those of its lines, last too many steps.
 abbrev pub first_fault : List Line → Option CheckFault
 first_fault lines =
-    first (unless (at_most 256 (length lines)) (fault.TooManyLines (length lines)))
+    first (unless (nat_lt (length lines) 257) (fault.TooManyLines (length lines)))
     (first (nesting_fault 0 [] lines)
-    (unless (at_most 65535 (balanced_cost (rule_of lines))) (fault.TooManySteps (length lines))))
+    (unless (nat_lt (balanced_cost (rule_of lines)) 65536) (fault.TooManySteps (length lines))))
 
 -- A checked table is one with no fault.
 pub record Checked (lines : List Line) : Type 0 where
   pub faultless : first_fault lines ≡ None
 
--- What a checked table is: the table of one rule, which fits a card, has at most 2,400 lines and 65,535 steps once balanced, and takes no more steps
--- in a plain run.
+-- What a checked table is: the table of one rule, which fits a card and has at most 65,535 steps.
 pub record IsRule (lines : List Line) : Type 0 where
   pub tree : StandsFor lines (rule_of lines)
   pub only : (r : Rule) → StandsFor lines r → r ≡ rule_of lines
   pub fits : Fits (rule_of lines) 0 0
   pub short : length lines ≤ 256
   pub cheap : balanced_cost (rule_of lines) ≤ 65535
-  pub plain : plain_cost (rule_of lines) ≤ balanced_cost (rule_of lines)
-  pub few : line_count (rule_of lines) ≤ 2400
 
 -- What a rule costs.
 abbrev pub costs_of : Rule → Costs
-costs_of r = record { plain = plain_cost r; balanced = balanced_cost r; lines = line_count r }
+costs_of r = record { plain = plain_cost r; balanced = balanced_cost r }
 
 -- What the check answers: the first fault, or the costs of the rule that the table stands for.
 abbrev pub checked : List Line → Result Costs CheckFault

@@ -1,4 +1,4 @@
--- What a rule costs: the most lines that a plain run goes through, and the steps and the number of its balanced lines.
+-- What a rule costs: the most lines that a plain run goes through, and the steps of its balanced lines.
 use Rattle.std.specs.Prelude.{ℕ, suc, ◌+◌, ◌-◌, ◌*◌, max}
 use Rattle.rules.specs.Trees.{Rule, done, op, when, loop, break}
 
@@ -21,16 +21,3 @@ block_cost (break r) k j = k - j + 2 + block_cost r k j
 -- B, the steps of a balanced rule: three to begin with, and those of its block.
 unfoldable pub balanced_cost : Rule → ℕ
 balanced_cost r = 3 + block_cost r 0 0
-
--- How many lines are written for a block at level k, where the body of the innermost loop around it has level j: three for an `if` and two for its
--- `else`, three for a loop and two for its end, and one for each mask that a break clears and one more.
-unfoldable pub block_lines : Rule → ℕ → ℕ → ℕ
-block_lines done k j = 0
-block_lines (op o r) k j = 5 + block_lines r k j
-block_lines (when a p q r) k j = 5 + block_lines p (suc k) j + block_lines q (suc k) j + block_lines r k j
-block_lines (loop i n b r) k j = 5 + block_lines b (suc k) (suc k) + block_lines r k j
-block_lines (break r) k j = k - j + 2 + block_lines r k j
-
--- How many lines a balanced rule has: three to begin with, and those of its block.
-unfoldable pub line_count : Rule → ℕ
-line_count r = 3 + block_lines r 0 0

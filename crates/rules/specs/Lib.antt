@@ -2,5 +2,4 @@ pub mod Trees
 pub mod Costs
 pub mod Faults
 pub mod Checks
-pub mod CheckedRules
 pub mod Passes

@@ -1,5 +1,5 @@
 -- The check in one pass: costs are summed up line by line, and cut off where a rule has too many steps in any case.
-use Rattle.std.specs.Prelude.{ℕ, ◌+◌, ◌-◌, ◌*◌, max, cond, List, [], ◌∷◌, length, Ok, Err, Result, nat_lt}
+use Rattle.std.specs.Prelude.{ℕ, ◌+◌, ◌-◌, ◌*◌, min, max, Bool, cond, List, [], ◌∷◌, length, Ok, Err, Result, nat_lt}
 use Rattle.lines.specs.Operations.{within, under}
 use Rattle.lines.specs.declared.line.Line.{Line}
 use Rattle.lines.specs.declared.line.Line.TheVariants as line
@@ -8,23 +8,23 @@ use Rattle.nesting.specs.declared.open.Open.TheVariants as open_is
 use Rattle.nesting.specs.declared.open.Frame.{Frame}
 use Rattle.rules.specs.declared.fault.CheckFault.{CheckFault}
 use Rattle.rules.specs.declared.fault.CheckFault.TheVariants as fault
-use Rattle.rules.specs.declared.costs.Costs.{Costs}
+use Rattle.rules.specs.declared.check.Costs.{Costs}
 use Rattle.rules.specs.declared.check.Sums.{Sums}
-use Rattle.lines.specs.Conditions.{and_then, at_most}
+use Rattle.nesting.specs.Conditions.{and_then}
 use Rattle.nesting.specs.Capped.{capped}
 use Rattle.nesting.specs.Levels.{opens, loop_level}
 
 -- Nothing, the costs of an empty block.
 abbrev pub free : Costs
-free = record { plain = 0; balanced = 0; lines = 0 }
+free = record { plain = 0; balanced = 0 }
 
 -- The costs before the first line.
 abbrev pub start : Costs
-start = record { plain = 0; balanced = 3; lines = 3 }
+start = record { plain = 0; balanced = 3 }
 
 -- The costs, and so much more.
-abbrev pub plus : Costs → ℕ → ℕ → ℕ → Costs
-plus c p b m = record { plain = capped (c.plain + p); balanced = capped (c.balanced + b); lines = capped (c.lines + m) }
+abbrev pub plus : Costs → ℕ → ℕ → Costs
+plus c p b = record { plain = capped (c.plain + p); balanced = capped (c.balanced + b) }
 
 -- Where a pass stands: the open lines with what was summed up before them, and the costs of the block so far.
 abbrev pub Walk : Type 0
@@ -34,33 +34,30 @@ Walk = List (Frame Sums) × Costs
 abbrev pub opening : ℕ → Open → Walk → Result Walk CheckFault
 opening at o w = cond (nat_lt (length w.0) 8) (Ok (record { part = o; kept = record { before = w.1; first = free } } ∷ w.0, free)) (Err (fault.TooDeep at))
 
--- The first part of an open line is over, which is to be an `if`.
+-- The first part of the innermost open line is over, which is to be an `if`.
 abbrev pub else_of : ℕ → Open → Sums → List (Frame Sums) → Costs → Result Walk CheckFault
 else_of at open_is.Then k st c = Ok (record { part = open_is.Else; kept = record { before = k.before; first = c } } ∷ st, free)
 else_of at open_is.Else k st c = Err (fault.SecondElse at)
 else_of at (open_is.Loop i n) k st c = Err (fault.StrayElse at)
 
--- `else` ends the first part of the innermost open line, if one is open.
 abbrev pub halving : ℕ → Walk → Result Walk CheckFault
 halving at ([], c) = Err (fault.StrayElse at)
 halving at (f ∷ st, c) = else_of at f.part f.kept st c
 
 -- The costs of an `if` whose second part has the costs c, with those before it.
 abbrev pub if_costs : Sums → Costs → Costs
-if_costs k c =
-    plus (plus k.before (1 + max k.first.plain c.plain) (5 + k.first.balanced) (5 + k.first.lines)) 0 c.balanced c.lines
+if_costs k c = plus (plus k.before (1 + max k.first.plain c.plain) (5 + k.first.balanced)) 0 c.balanced
 
 -- The costs of a loop whose body has the costs c, with those before it.
 abbrev pub loop_costs : ℕ → Sums → Costs → Costs
-loop_costs n k c = plus (plus k.before 1 4 5) (capped (n * c.plain)) (capped (n * capped (c.balanced + 1))) c.lines
+loop_costs n k c = plus (plus k.before 1 4) (capped (n * c.plain)) (capped (n * capped (c.balanced + 1)))
 
--- An open line ends, whose last part has the costs c.
+-- The innermost open line ends.
 abbrev pub end_of : ℕ → Open → Sums → List (Frame Sums) → Costs → Result Walk CheckFault
 end_of at open_is.Then k st c = Err (fault.MissingElse at)
 end_of at open_is.Else k st c = Ok (st, if_costs k c)
 end_of at (open_is.Loop i n) k st c = Ok (st, loop_costs n k c)
 
--- `end` ends the innermost open line, if one is open.
 abbrev pub closing : ℕ → Walk → Result Walk CheckFault
 closing at ([], c) = Err (fault.StrayEnd at)
 closing at (f ∷ st, c) = end_of at f.part f.kept st c
@@ -69,22 +66,22 @@ closing at (f ∷ st, c) = end_of at f.part f.kept st c
 abbrev pub breaking : ℕ → Walk → Result Walk CheckFault
 breaking at w =
     let j = loop_level (opens w.0) in
-    cond (nat_lt 0 j) (Ok (w.0, plus w.1 1 (length w.0 - j + 2) (length w.0 - j + 2))) (Err (fault.BreakOutsideLoop at))
+    cond (nat_lt 0 j) (Ok (w.0, plus w.1 1 (length w.0 - j + 2))) (Err (fault.BreakOutsideLoop at))
 
 -- One line of the pass.
 abbrev pub step : ℕ → Walk → Line → Result Walk CheckFault
-step at w (line.Operation o) = cond (within 64 o) (Ok (w.0, plus w.1 1 5 5)) (Err (fault.FieldOffCard at))
+step at w (line.Operation o) = cond (within 64 o) (Ok (w.0, plus w.1 1 5)) (Err (fault.FieldOffCard at))
 step at w (line.If a) = cond (under 64 a) (opening at open_is.Then w) (Err (fault.FieldOffCard at))
 step at w line.Else = halving at w
 step at w line.End = closing at w
 step at w (line.Loop i n) =
-    cond (under 64 i) (cond (nat_lt (length w.0) 8) (cond (at_most 1000 n) (opening at (open_is.Loop i n) w) (Err (fault.TooManyRounds at))) (Err (fault.TooDeep at))) (Err (fault.FieldOffCard at))
+    cond (under 64 i) (cond (nat_lt (length w.0) 8) (cond (nat_lt n 1001) (opening at (open_is.Loop i n) w) (Err (fault.TooManyRounds at))) (Err (fault.TooDeep at))) (Err (fault.FieldOffCard at))
 step at w line.Break = breaking at w
 step at w (line.Turn i n) = Err (fault.TurnInRule at)
 
 -- What is answered at the end of a table.
 abbrev pub finish : ℕ → Walk → Result Costs CheckFault
-finish at ([], c) = cond (at_most 65535 c.balanced) (Ok c) (Err (fault.TooManySteps at))
+finish at ([], c) = cond (nat_lt c.balanced 65536) (Ok c) (Err (fault.TooManySteps at))
 finish at (f ∷ st, c) = Err (fault.Unclosed at)
 
 -- The pass from line `at` on.

@@ -1,5 +1,5 @@
 -- The tree that a rule's table stands for.
-use Rattle.std.specs.Prelude.{◌≡◌, ℕ, suc, ◌<◌, ◌≤◌, true, List, [], ◌∷◌}
+use Rattle.std.specs.Prelude.{◌≡◌, ℕ, suc, ◌<◌, true, List, [], ◌∷◌}
 use Rattle.lines.specs.Operations.{within, under}
 use Rattle.lines.specs.declared.field.Field.{Field}
 use Rattle.nesting.specs.Blocks.{Blocks, last, before, front, behind, replace}
@@ -55,5 +55,5 @@ abbrev pub Fits : Rule → ℕ → ℕ → Type 0
 Fits done k j = Unit {0}
 Fits (op o r) k j = (within 64 o ≡ true) × Fits r k j
 Fits (when a p q r) k j = (under 64 a ≡ true) × (k < 8) × Fits p (suc k) j × Fits q (suc k) j × Fits r k j
-Fits (loop i n b r) k j = (under 64 i ≡ true) × (k < 8) × (n ≤ 1000) × Fits b (suc k) (suc k) × Fits r k j
+Fits (loop i n b r) k j = (under 64 i ≡ true) × (k < 8) × (n < 1001) × Fits b (suc k) (suc k) × Fits r k j
 Fits (break r) k j = (0 < j) × Fits r k j

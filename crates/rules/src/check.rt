@@ -1,12 +1,9 @@
-ghost use Rattle.std.specs.Prelude.{◌≡◌, [], IfOk};
+ghost use Rattle.std.specs.Prelude.{◌≡◌, [], OnOk};
 ghost use Rattle.rules.specs.Checks.{checked, Checked, IsRule};
-ghost use Rattle.rules.specs.CheckedRules.{costs_answered, Passed};
-ghost use Rattle.nesting.specs.Nesting.{held};
-ghost use Rattle.rules.specs.Passes.{if_costs, loop_costs, opening, halving, closing, breaking, step, standing, start, pass, finish};
+ghost use Rattle.nesting.specs.Nesting.{view};
+ghost use Rattle.rules.specs.Passes.{plus, if_costs, loop_costs, opening, halving, closing, breaking, step, standing, start, pass, finish};
 
-use crate::costs::{Costs, FREE, START};
 use crate::fault::CheckFault;
-use crate::rule::CheckedRule;
 use lines::line::Line;
 use nesting::capped::{capped_product, capped_sum};
 use nesting::limits::{MAX_ROUNDS, MAX_STEPS};
@@ -19,6 +16,15 @@ pub const MAX_RULE_LINES: usize = 256;
 /// How many fields a card has.
 pub const CARD_FIELDS: u8 = 64;
 
+/// What a rule costs.
+#[derive(Clone, Copy, PartialEq, Debug)]
+pub struct Costs {
+    /// The most entries that a plain run writes to its roll.
+    pub plain: u32,
+    /// The steps of the balanced rule.
+    pub balanced: u32,
+}
+
 /// What was summed up before an open line, and of an open `if` its first part.
 #[derive(Clone, Copy)]
 pub struct Sums {
@@ -26,14 +32,35 @@ pub struct Sums {
     first: Costs,
 }
 
-/// An `if` or a loop opens: what was summed up before it is kept until its end.
+const FREE: Costs = Costs {
+    plain: 0,
+    balanced: 0,
+};
+
+/// Before the first line: a balanced rule begins with three lines of its own.
+const START: Costs = Costs {
+    plain: 0,
+    balanced: 3,
+};
+
+impl Costs {
+    fn plus(self, plain: u32, balanced: u32) -> Costs
+        ensures { result ≡ plus self plain balanced }
+    {
+        Costs {
+            plain: capped_sum(self.plain, plain),
+            balanced: capped_sum(self.balanced, balanced),
+        }
+    }
+}
+
 fn open_line(
     stack: &mut Stack<Frame<Sums>>,
     costs: Costs,
     at: usize,
     part: Open,
 ) -> Result<Costs, CheckFault>
-    ensures { opening at part (held stack.old, costs) ≡ standing result (held stack.new) }
+    ensures { opening at part (view stack.old.items stack.old.depth, costs) ≡ standing result (view stack.new.items stack.new.depth) }
 {
     let kept = Sums {
         before: costs,
@@ -46,9 +73,8 @@ fn open_line(
     }
 }
 
-/// `else`: the costs so far are those of the first part.
-fn else_line(stack: &mut Stack<Frame<Sums>>, costs: Costs, at: usize) -> Result<Costs, CheckFault>
-    ensures { halving at (held stack.old, costs) ≡ standing result (held stack.new) }
+fn halve_line(stack: &mut Stack<Frame<Sums>>, costs: Costs, at: usize) -> Result<Costs, CheckFault>
+    ensures { halving at (view stack.old.items stack.old.depth, costs) ≡ standing result (view stack.new.items stack.new.depth) }
 {
     let Some(frame) = stack.pop() else {
         return Err(CheckFault::StrayElse(at));
@@ -75,27 +101,23 @@ fn if_costs(sums: Sums, second: Costs) -> Costs
     ensures { result ≡ if_costs sums second }
 {
     let longer = capped_sum(1, sums.first.plain.max(second.plain));
-    let first_steps = capped_sum(5, sums.first.balanced);
-    let first_lines = capped_sum(5, sums.first.lines);
     sums.before
-        .plus(longer, first_steps, first_lines)
-        .plus(0, second.balanced, second.lines)
+        .plus(longer, capped_sum(5, sums.first.balanced))
+        .plus(0, second.balanced)
 }
 
 /// The costs of a loop whose body costs so much, with what was before it.
 fn loop_costs(rounds: u32, sums: Sums, body: Costs) -> Costs
     ensures { result ≡ loop_costs rounds sums body }
 {
-    sums.before.plus(1, 4, 5).plus(
+    sums.before.plus(1, 4).plus(
         capped_product(rounds, body.plain),
         capped_product(rounds, capped_sum(body.balanced, 1)),
-        body.lines,
     )
 }
 
-/// `end`: the costs of the innermost open line are added to those before it.
 fn close_line(stack: &mut Stack<Frame<Sums>>, costs: Costs, at: usize) -> Result<Costs, CheckFault>
-    ensures { closing at (held stack.old, costs) ≡ standing result (held stack.new) }
+    ensures { closing at (view stack.old.items stack.old.depth, costs) ≡ standing result (view stack.new.items stack.new.depth) }
 {
     let Some(frame) = stack.pop() else {
         return Err(CheckFault::StrayEnd(at));
@@ -107,33 +129,30 @@ fn close_line(stack: &mut Stack<Frame<Sums>>, costs: Costs, at: usize) -> Result
     }
 }
 
-/// The costs with those of a `break`, which has to be inside a loop.
 fn break_costs(stack: &Stack<Frame<Sums>>, costs: Costs, at: usize) -> Result<Costs, CheckFault>
-    ensures { breaking at (held stack.now, costs) ≡ standing result (held stack.now) }
+    ensures { breaking at (view stack.now.items stack.now.depth, costs) ≡ standing result (view stack.now.items stack.now.depth) }
 {
     let level = stack.len();
     let body = loop_level(stack);
     if body > 0 {
-        let cleared = (level - body) as u32 + 2;
-        Ok(costs.plus(1, cleared, cleared))
+        Ok(costs.plus(1, (level - body) as u32 + 2))
     } else {
         Err(CheckFault::BreakOutsideLoop(at))
     }
 }
 
-/// The costs after one more line, or what is wrong with the line.
 fn check_line(
     stack: &mut Stack<Frame<Sums>>,
     costs: Costs,
     at: usize,
     line: &Line,
 ) -> Result<Costs, CheckFault>
-    ensures { step at (held stack.old, costs) line.now ≡ standing result (held stack.new) }
+    ensures { step at (view stack.old.items stack.old.depth, costs) line.now ≡ standing result (view stack.new.items stack.new.depth) }
 {
     match line {
         Line::Operation(operation) => {
             if operation.is_within(CARD_FIELDS) {
-                Ok(costs.plus(1, 5, 5))
+                Ok(costs.plus(1, 5))
             } else {
                 Err(CheckFault::FieldOffCard(at))
             }
@@ -145,7 +164,7 @@ fn check_line(
                 Err(CheckFault::FieldOffCard(at))
             }
         }
-        Line::Else => else_line(stack, costs, at),
+        Line::Else => halve_line(stack, costs, at),
         Line::End => close_line(stack, costs, at),
         Line::Loop(field, rounds) => {
             if field.0 >= CARD_FIELDS {
@@ -163,9 +182,8 @@ fn check_line(
     }
 }
 
-/// The costs of the whole rule, which has to be closed and not to take too many steps.
 fn finish(stack: &Stack<Frame<Sums>>, costs: Costs, count: usize) -> Result<Costs, CheckFault>
-    ensures { result ≡ finish count (held stack.now, costs) }
+    ensures { result ≡ finish count (view stack.now.items stack.now.depth, costs) }
 {
     if stack.peek(0).is_some() {
         Err(CheckFault::Unclosed(count))
@@ -176,7 +194,6 @@ fn finish(stack: &Stack<Frame<Sums>>, costs: Costs, count: usize) -> Result<Cost
     }
 }
 
-/// The check of a table of any length.
 fn check_lines(lines: &[Line]) -> Result<Costs, CheckFault>
     ensures { result ≡ pass 0 ([], start) lines.now }
 {
@@ -194,15 +211,14 @@ fn check_lines(lines: &[Line]) -> Result<Costs, CheckFault>
     finish(&stack, costs, lines.len())
 }
 
-/// Whether a table is a rule: the rule with what it costs, or the first fault.
-pub fn check(lines: &[Line]) -> Result<CheckedRule<'_>, CheckFault>
-    ensures answer { costs_answered result ≡ checked lines.now }
-    ensures passed { IfOk result (λ rule. Passed rule lines.now) }
+/// Whether a table is a rule: what it costs, or the first fault.
+pub fn check(lines: &[Line]) -> Result<Costs, CheckFault>
+    ensures answer { result ≡ checked lines.now }
+    ensures passed { OnOk result (Checked lines.now) }
     ensures rule { Checked lines.now → IsRule lines.now }
 {
     if lines.len() > MAX_RULE_LINES {
         return Err(CheckFault::TooManyLines(lines.len()));
     }
-    let costs = check_lines(lines)?;
-    Ok(CheckedRule::new(lines, costs))
+    check_lines(lines)
 }

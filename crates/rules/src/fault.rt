@@ -1,5 +1,5 @@
 ghost use Rattle.std.specs.Prelude.{◌≡◌};
-ghost use Rattle.rules.specs.Faults.{check_number, check_place};
+ghost use Rattle.rules.specs.Faults.{fault_number, fault_place};
 
 /// Why a table is no rule. Each case holds its place: the line, from 0, or the line count where no one line is at fault.
 #[derive(Clone, Copy, PartialEq, Debug)]
@@ -33,7 +33,7 @@ pub enum CheckFault {
 impl CheckFault {
     /// The fault's number.
     pub fn number(&self) -> u32
-        ensures { result ≡ check_number self.now }
+        ensures { result ≡ fault_number self.now }
     {
         match self {
             CheckFault::TooManyLines(_) => 10,
@@ -53,7 +53,7 @@ impl CheckFault {
 
     /// The fault's place.
     pub fn place(&self) -> usize
-        ensures { result ≡ check_place self.now }
+        ensures { result ≡ fault_place self.now }
     {
         match self {
             CheckFault::TooManyLines(count) => *count,

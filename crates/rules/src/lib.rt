@@ -1,6 +1,4 @@
 //! Rules: the tree that a table of lines stands for, what it costs, and the check of a table.
 
 pub mod check;
-pub mod costs;
 pub mod fault;
-pub mod rule;

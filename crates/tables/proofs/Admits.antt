@@ -2,19 +2,18 @@
 use Rattle.std.proofs.Common.{◌≡◌, ℕ, zero, suc, ◌+◌, ◌-◌, ◌*◌, ◌<◌, ◌≤◌, min, Bool, true, false, cond, ltb, List, [], ◌∷◌, length, IfOk, Some, None, Ok, Err, Option, Result, sym, refl, ap, ◌∙◌, subst, inl, inr, add-one, arith}
 use Rattle.std.proofs.lemmas.Bool.{lt-ltb, le-ltb, ltb-true, cond-true, cond-false, cases_lt}
 use Rattle.lines.specs.Operations.{within, under}
-use Rattle.lines.proofs.Limits.{at_most_lem, at_most_holds, over}
 use Rattle.lines.specs.declared.line.Line.{Line}
 use Rattle.lines.specs.declared.line.Line.TheVariants as line
 use Rattle.nesting.specs.Capped.{capped}
-use Rattle.lines.specs.Conditions.{unless, first, or_fault, and_then, at_most}
+use Rattle.nesting.specs.Conditions.{unless, first, or_fault, and_then}
 use Rattle.nesting.proofs.Caps.{cap_times}
 use Rattle.nesting.proofs.Firsts.{none_both, none_holds}
 use Rattle.tables.specs.declared.admit.OpenTurn.{OpenTurn}
 use Rattle.tables.specs.declared.fault.AdmissionFault.{AdmissionFault}
 use Rattle.tables.specs.declared.fault.AdmissionFault.TheVariants as fault
-use Rattle.tables.specs.Lines.{Lines, stop, does, turn, flat, lines_of}
+use Rattle.tables.specs.Lines.{Lines, stop, does, turn, flat}
 use Rattle.tables.specs.Steps.{steps}
-use Rattle.tables.specs.Admission.{line_fault, after, nesting_fault, first_fault, Admitted, Runs, IsTable, admission}
+use Rattle.tables.specs.Admission.{lines_of, line_fault, after, nesting_fault, first_fault, Admitted, Runs, IsTable, admission}
 use Rattle.tables.specs.Counting.{Count, turn_steps, closing, opening, step, finish, count}
 use Rattle.tables.proofs.Tables.{stands, lines_flat, size, length-flat}
 
@@ -36,7 +35,7 @@ agrees at st s (line.Operation o) = last_test (within 96 o) (fault.FieldOffTable
 agrees at st s (line.Turn i n) =
     first_test (under 96 i) (fault.FieldOffTable at) _ _ _
     (first_test (ltb (length st) 8) (fault.TooDeep at) _ _ _
-    (last_test (at_most 1000 n) (fault.TooManyRounds at) (record { rounds = n; before = s } ∷ st, 0) (length st + 1) (sym (add-one (length st)))))
+    (last_test (ltb n 1001) (fault.TooManyRounds at) (record { rounds = n; before = s } ∷ st, 0) (length st + 1) (sym (add-one (length st)))))
 agrees at [] s line.End = refl
 agrees at (t ∷ st) s line.End =
     subst (λ b. Agrees (unless b (fault.StrayEnd at)) (Ok (st, turn_steps t s)) (suc (length st) - 1)) (sym (lt-ltb 0 (suc (length st)) (omega arith)))
@@ -86,7 +85,7 @@ summed (does o l) at st s t r h =
 summed (turn i n b l) at st s t r h =
     let open_in : OpenTurn = record { rounds = n; before = s } in
     let opened : step at (st, s) (line.Turn i n) ≡ Ok (open_in ∷ st, 0) =
-    cond-true (under 96 i) _ _ r.0 ∙ cond-true (ltb (length st) 8) _ _ (lt-ltb (length st) 8 r.1) ∙ cond-true (at_most 1000 n) _ _ (at_most_lem 1000 n r.2) in
+    cond-true (under 96 i) _ _ r.0 ∙ cond-true (ltb (length st) 8) _ _ (lt-ltb (length st) 8 r.1) ∙ cond-true (ltb n 1001) _ _ (lt-ltb n 1001 r.2) in
     let one = goes (line.Turn i n) at (st, s) (open_in ∷ st, 0) (flat b (line.End ∷ flat l t)) opened in
     let two = summed b (at + 1) (open_in ∷ st) 0 (line.End ∷ flat l t) (subst (Runs b) (add-one (length st)) r.3) (omega arith) in
     let three = goes line.End (at + 1 + size b) (open_in ∷ st, capped (0 + steps b)) (st, turn_steps open_in (capped (0 + steps b))) (flat l t) refl in
@@ -94,48 +93,48 @@ summed (turn i n b l) at st s t r h =
     let five = summed l (at + 1 + size b + 1) st (capped (s + (1 + n * (steps b + 1)))) t r.4 (omega arith) in
     one ∙ two ∙ three ∙ four ∙ five ∙ at_line _ _ st _ _ t (omega arith) (omega arith)
 
-closes : (n s : ℕ) → finish n ([], capped (0 + s)) ≡ or_fault (unless (at_most 65535 s) (fault.TooManySteps n)) s
+closes : (n s : ℕ) → finish n ([], capped (0 + s)) ≡ or_fault (unless (ltb s 65536) (fault.TooManySteps n)) s
 closes n s = elim (cases_lt s 65536) [ inl h ↦ few h | inr h ↦ many h ]
   where
-    few : s < 65536 → finish n ([], capped (0 + s)) ≡ or_fault (unless (at_most 65535 s) (fault.TooManySteps n)) s
+    few : s < 65536 → finish n ([], capped (0 + s)) ≡ or_fault (unless (ltb s 65536) (fault.TooManySteps n)) s
     few h =
         let x : capped (0 + s) ≡ s = omega arith in
-        let t = at_most_lem 65535 s (omega arith) in
+        let t = lt-ltb s 65536 h in
         ap (λ y. finish n ([], y)) x ∙ cond-true _ _ _ t ∙ sym (ap (λ b. or_fault (unless b (fault.TooManySteps n)) s) t)
 
-    many : 65536 ≤ s → finish n ([], capped (0 + s)) ≡ or_fault (unless (at_most 65535 s) (fault.TooManySteps n)) s
+    many : 65536 ≤ s → finish n ([], capped (0 + s)) ≡ or_fault (unless (ltb s 65536) (fault.TooManySteps n)) s
     many h =
-        let t = over 65535 (capped (0 + s)) (omega arith) in
-        let u = over 65535 s (omega arith) in
+        let t = le-ltb (capped (0 + s)) 65536 (omega arith) in
+        let u = le-ltb s 65536 h in
         cond-false _ _ _ t ∙ sym (ap (λ b. or_fault (unless b (fault.TooManySteps n)) s) u)
 
-whole_count : (l : Lines) → Runs l 0 → count 0 ([], 0) (flat l []) ≡ or_fault (unless (at_most 65535 (steps l)) (fault.TooManySteps (length (flat l [])))) (steps l)
+whole_count : (l : Lines) → Runs l 0 → count 0 ([], 0) (flat l []) ≡ or_fault (unless (ltb (steps l) 65536) (fault.TooManySteps (length (flat l [])))) (steps l)
 unfolding count
 whole_count l r =
     let n = length-flat l [] in
     let e : 0 + size l ≡ length (flat l []) = omega arith in
     summed l 0 [] 0 [] r (omega arith) ∙ ap (λ m. finish m ([], capped (0 + steps l))) e ∙ closes (length (flat l [])) (steps l)
 
-counts : (t : List Line) → count 0 ([], 0) t ≡ or_fault (first (nesting_fault 0 0 t) (unless (at_most 65535 (steps (lines_of t))) (fault.TooManySteps (length t)))) (steps (lines_of t))
+counts : (t : List Line) → count 0 ([], 0) t ≡ or_fault (first (nesting_fault 0 0 t) (unless (ltb (steps (lines_of t)) 65536) (fault.TooManySteps (length t)))) (steps (lines_of t))
 counts t = go (nesting_fault 0 0 t) refl
   where
-    go : (o : Option AdmissionFault) → nesting_fault 0 0 t ≡ o → count 0 ([], 0) t ≡ or_fault (first o (unless (at_most 65535 (steps (lines_of t))) (fault.TooManySteps (length t)))) (steps (lines_of t))
+    go : (o : Option AdmissionFault) → nesting_fault 0 0 t ≡ o → count 0 ([], 0) t ≡ or_fault (first o (unless (ltb (steps (lines_of t)) 65536) (fault.TooManySteps (length t)))) (steps (lines_of t))
     go (Some f) e = refuses t 0 [] 0 f e
     go None e =
         let s = stands t e in
         ap (count 0 ([], 0)) s.0 ∙ whole_count (lines_of t) s.1
-        ∙ ap (λ m. or_fault (unless (at_most 65535 (steps (lines_of t))) (fault.TooManySteps (length m))) (steps (lines_of t))) (sym s.0)
+        ∙ ap (λ m. or_fault (unless (ltb (steps (lines_of t)) 65536) (fault.TooManySteps (length m))) (steps (lines_of t))) (sym s.0)
 
 -- the first test of the whole
-with_length : (t : List Line) (b : Bool) → at_most 2400 (length t) ≡ b →
-    admission t ≡ or_fault (first (unless b (fault.TooManyLines (length t))) (first (nesting_fault 0 0 t) (unless (at_most 65535 (steps (lines_of t))) (fault.TooManySteps (length t))))) (steps (lines_of t))
-with_length t b e = ap (λ y. or_fault (first (unless y (fault.TooManyLines (length t))) (first (nesting_fault 0 0 t) (unless (at_most 65535 (steps (lines_of t))) (fault.TooManySteps (length t))))) (steps (lines_of t))) e
+with_length : (t : List Line) (b : Bool) → ltb (length t) 2401 ≡ b →
+    admission t ≡ or_fault (first (unless b (fault.TooManyLines (length t))) (first (nesting_fault 0 0 t) (unless (ltb (steps (lines_of t)) 65536) (fault.TooManySteps (length t))))) (steps (lines_of t))
+with_length t b e = ap (λ y. or_fault (first (unless y (fault.TooManyLines (length t))) (first (nesting_fault 0 0 t) (unless (ltb (steps (lines_of t)) 65536) (fault.TooManySteps (length t))))) (steps (lines_of t))) e
 
 pub admit_short : (t : List Line) → length t ≤ 2400 → count 0 ([], 0) t ≡ admission t
-admit_short t h = counts t ∙ sym (with_length t true (at_most_lem 2400 (length t) (omega arith)))
+admit_short t h = counts t ∙ sym (with_length t true (lt-ltb (length t) 2401 (omega arith)))
 
 pub admit_long : (t : List Line) → 2400 < length t → Err (fault.TooManyLines (length t)) ≡ admission t
-admit_long t h = sym (with_length t false (over 2400 (length t) (omega arith)))
+admit_long t h = sym (with_length t false (le-ltb (length t) 2401 (omega arith)))
 
 -- an answer without fault says that the table has none
 pub admit_passed : (t : List Line) (r : Result ℕ AdmissionFault) → r ≡ admission t → IfOk r (λ _. Admitted t)
@@ -147,12 +146,12 @@ admit_passed t r e = go (first_fault t) refl (e ∙ refl)
 
 pub is_table : (t : List Line) → Admitted t → IsTable t
 is_table t c =
-    let rest = unless (at_most 65535 (steps (lines_of t))) (fault.TooManySteps (length t)) in
-    let a = none_both (unless (at_most 2400 (length t)) (fault.TooManyLines (length t))) (first (nesting_fault 0 0 t) rest) c.faultless in
+    let rest = unless (ltb (steps (lines_of t)) 65536) (fault.TooManySteps (length t)) in
+    let a = none_both (unless (ltb (length t) 2401) (fault.TooManyLines (length t))) (first (nesting_fault 0 0 t) rest) c.faultless in
     let b = none_both (nesting_fault 0 0 t) rest a.1 in
     let s = stands t b.0 in
-    let few = at_most_holds 2400 (length t) (none_holds _ _ a.0) in
-    let quick = at_most_holds 65535 (steps (lines_of t)) (none_holds _ _ b.1) in
+    let few = ltb-true (length t) 2401 (none_holds _ _ a.0) in
+    let quick = ltb-true (steps (lines_of t)) 65536 (none_holds _ _ b.1) in
     record {
       tree = s.0;
       only = λ l e. sym (ap lines_of e ∙ lines_flat l);

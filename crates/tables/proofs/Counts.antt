@@ -2,7 +2,7 @@
 use Rattle.std.proofs.Common.{◌≡◌, ℕ, ◌+◌, ◌<◌, List, [], ◌∷◌, length, get_or, drop, Ok, Err, sym, refl, ap, ◌∙◌, arith}
 use Rattle.std.proofs.lemmas.List.{at_drop_more, at_drop_all}
 use Rattle.lines.specs.declared.line.Line.{Line}
-use Rattle.lines.specs.Conditions.{and_then}
+use Rattle.nesting.specs.Conditions.{and_then}
 use Rattle.tables.specs.declared.fault.AdmissionFault.{AdmissionFault}
 use Rattle.tables.specs.Counting.{Count, step, count, finish}
 

@@ -1,19 +1,18 @@
 -- A table without a nesting fault is the table of balanced lines, and of no others.
-use Rattle.std.proofs.Common.{◌≡◌, ℕ, zero, suc, ◌+◌, ◌-◌, ◌<◌, ◌≤◌, Bool, true, false, cond, ltb, List, [], ◌∷◌, length, Some, None, Option, sym, refl, ap, ◌∙◌, subst, add-one, arith}
+use Rattle.std.proofs.Common.{◌≡◌, ℕ, zero, suc, ◌+◌, ◌-◌, ◌<◌, Bool, true, false, cond, ltb, List, [], ◌∷◌, length, Some, None, Option, sym, refl, ap, ◌∙◌, subst, add-one, arith}
 use Rattle.std.proofs.lemmas.Bool.{ltb-true, lt-ltb}
 use Rattle.lines.specs.Operations.{within, under}
-use Rattle.lines.proofs.Limits.{at_most_lem, at_most_holds}
 use Rattle.lines.specs.declared.field.Field.{Field}
 use Rattle.lines.specs.declared.line.Line.{Line}
 use Rattle.lines.specs.declared.line.Line.TheVariants as line
 use Rattle.nesting.specs.Blocks.{Blocks, last, before, front, behind, replace}
-use Rattle.lines.specs.Conditions.{unless, first, at_most}
+use Rattle.nesting.specs.Conditions.{unless, first}
 use Rattle.nesting.proofs.Blocks.{front-replace, replace-replace, replace-front}
 use Rattle.nesting.proofs.Firsts.{none_both, none_holds, never}
 use Rattle.tables.specs.declared.fault.AdmissionFault.{AdmissionFault}
 use Rattle.tables.specs.declared.fault.AdmissionFault.TheVariants as fault
-use Rattle.tables.specs.Lines.{Lines, stop, does, turn, flat, blocks, lines_of}
-use Rattle.tables.specs.Admission.{line_fault, after, nesting_fault, Runs}
+use Rattle.tables.specs.Lines.{Lines, stop, does, turn, flat}
+use Rattle.tables.specs.Admission.{blocks, lines_of, line_fault, after, nesting_fault, Runs}
 
 -- what the lines t are, inside d turns: a block, the `end` that closes it, and so on outwards
 abbrev Parsed : ℕ → List Line → Type 0
@@ -31,13 +30,13 @@ split : (x : Line) (t : List Line) (at d : ℕ) → nesting_fault at d (x ∷ t)
 unfolding nesting_fault
 split x t at d e = none_both (line_fault at d x) (nesting_fault (at + 1) (after d x) t) e
 
-turn_holds : (at d : ℕ) (i : Field) (n : ℕ) → line_fault at d (line.Turn i n) ≡ None → (under 96 i ≡ true) × (d < 8) × (n ≤ 1000)
+turn_holds : (at d : ℕ) (i : Field) (n : ℕ) → line_fault at d (line.Turn i n) ≡ None → (under 96 i ≡ true) × (d < 8) × (n < 1001)
 turn_holds at d i n e =
     let deep = unless (ltb d 8) (fault.TooDeep at) in
-    let long = unless (at_most 1000 n) (fault.TooManyRounds at) in
+    let long = unless (ltb n 1001) (fault.TooManyRounds at) in
     let b = none_both (unless (under 96 i) (fault.FieldOffTable at)) (first deep long) e in
     let c = none_both deep long b.1 in
-    (none_holds (under 96 i) _ b.0, ltb-true _ _ (none_holds (ltb d 8) _ c.0), at_most_holds 1000 n (none_holds (at_most 1000 n) _ c.1))
+    (none_holds (under 96 i) _ b.0, ltb-true _ _ (none_holds (ltb d 8) _ c.0), ltb-true _ _ (none_holds (ltb n 1001) _ c.1))
 
 parsed : (t : List Line) (at d : ℕ) → nesting_fault at d t ≡ None → Parsed d t
 unfolding flat nesting_fault
@@ -118,7 +117,7 @@ faultless (does o l) at d t r =
     passes (within 96 o) _ _ r.0 ∙ faultless l (at + 1) d t r.1 ∙ ap (λ k. nesting_fault k d t) (omega arith)
 faultless (turn i n b l) at d t r =
     let deep = lt-ltb d 8 r.1 in
-    let long = at_most_lem 1000 n r.2 in
+    let long = lt-ltb n 1001 r.2 in
     let open-d = lt-ltb 0 (d + 1) (omega arith) in
     let back : d + 1 - 1 ≡ d = omega arith in
     let rest = nesting_fault (at + 1) (d + 1) (flat b (line.End ∷ flat l t)) in

@@ -3,19 +3,38 @@ use Rattle.std.specs.Prelude.{◌≡◌, ℕ, zero, suc, ◌+◌, ◌-◌, ◌<�
 use Rattle.lines.specs.Operations.{within, under}
 use Rattle.lines.specs.declared.line.Line.{Line}
 use Rattle.lines.specs.declared.line.Line.TheVariants as line
-use Rattle.lines.specs.Conditions.{unless, first, or_fault, at_most}
+use Rattle.nesting.specs.Blocks.{Blocks, last, before, front, behind, replace}
+use Rattle.nesting.specs.Conditions.{unless, first, or_fault}
 use Rattle.tables.specs.declared.fault.AdmissionFault.{AdmissionFault}
 use Rattle.tables.specs.declared.fault.AdmissionFault.TheVariants as fault
-use Rattle.tables.specs.Lines.{Lines, stop, does, turn, flat, lines_of}
+use Rattle.tables.specs.Lines.{Lines, stop, does, turn, flat}
 use Rattle.tables.specs.Steps.{steps}
 
--- The first of these that line `at` breaks, where d turns are open: it is no line of rules alone; its fields are those of a table, f0 to f95; an
--- `end` has a turn to close; a turn is inside fewer than eight others, and has at most 1,000 rounds.
+-- A table read from its end: a line is put in front of its block, `end` begins a block inside it, and `turn` takes its own.
+unfoldable pub blocks : List Line → Blocks Lines
+blocks [] = last stop
+blocks (line.Operation o ∷ l) = let bs = blocks l in replace (does o (front bs)) bs
+blocks (line.Turn i n ∷ l) =
+    let bs = blocks l in
+    let cs = behind stop bs in
+    replace (turn i n (front bs) (front cs)) cs
+blocks (line.End ∷ l) = before stop (blocks l)
+blocks (line.Else ∷ l) = blocks l
+blocks (line.Break ∷ l) = blocks l
+blocks (line.If a ∷ l) = blocks l
+blocks (line.Loop i n ∷ l) = blocks l
+
+-- The balanced lines that a table stands for, if it stands for some.
+abbrev pub lines_of : List Line → Lines
+lines_of table = front (blocks table)
+
+-- The first condition that line `at` meets, where d turns are open: it is no line of rules alone, its fields are those of a table, f0 to f95,
+-- an `end` has a turn to close, a turn is inside fewer than eight others, and it has at most 1,000 rounds.
 abbrev pub line_fault : ℕ → ℕ → Line → Option AdmissionFault
 line_fault at d (line.Operation o) = unless (within 96 o) (fault.FieldOffTable at)
 line_fault at d (line.Turn i n) =
     first (unless (under 96 i) (fault.FieldOffTable at))
-    (first (unless (nat_lt d 8) (fault.TooDeep at)) (unless (at_most 1000 n) (fault.TooManyRounds at)))
+    (first (unless (nat_lt d 8) (fault.TooDeep at)) (unless (nat_lt n 1001) (fault.TooManyRounds at)))
 line_fault at d line.End = unless (nat_lt 0 d) (fault.StrayEnd at)
 line_fault at d line.Else = Some (fault.RuleLine at)
 line_fault at d line.Break = Some (fault.RuleLine at)
@@ -41,21 +60,21 @@ nesting_fault at d (x ∷ xs) = first (line_fault at d x) (nesting_fault (at + 1
 -- The first fault of a table: too many lines before all others, then those of its lines, last too many steps.
 abbrev pub first_fault : List Line → Option AdmissionFault
 first_fault table =
-    first (unless (at_most 2400 (length table)) (fault.TooManyLines (length table)))
+    first (unless (nat_lt (length table) 2401) (fault.TooManyLines (length table)))
     (first (nesting_fault 0 0 table)
-    (unless (at_most 65535 (steps (lines_of table))) (fault.TooManySteps (length table))))
+    (unless (nat_lt (steps (lines_of table)) 65536) (fault.TooManySteps (length table))))
 
 -- An admitted table is one with no fault.
 pub record Admitted (table : List Line) : Type 0 where
   pub faultless : first_fault table ≡ None
 
--- Balanced lines as admission wants them, where d turns are open around them: fields f0 to f95, at most eight turns deep, at most 1,000 rounds a turn.
+-- Balanced lines as admission wants them, where d turns are open around them.
 abbrev pub Runs : Lines → ℕ → Type 0
 Runs stop d = Unit {0}
 Runs (does o l) d = (within 96 o ≡ true) × Runs l d
-Runs (turn i n b l) d = (under 96 i ≡ true) × (d < 8) × (n ≤ 1000) × Runs b (d + 1) × Runs l d
+Runs (turn i n b l) d = (under 96 i ≡ true) × (d < 8) × (n < 1001) × Runs b (d + 1) × Runs l d
 
--- What an admitted table is: the table of balanced lines, and of no others, which are as admission wants them; at most 2,400 lines and 65,535 steps.
+-- What an admitted table is: the table of balanced lines, and of no others, with fields f0 to f95, at most eight turns deep and at most 65,535 steps.
 pub record IsTable (table : List Line) : Type 0 where
   pub tree : table ≡ flat (lines_of table) []
   pub only : (l : Lines) → table ≡ flat l [] → l ≡ lines_of table

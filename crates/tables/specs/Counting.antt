@@ -4,7 +4,7 @@ use Rattle.lines.specs.Operations.{within, under}
 use Rattle.lines.specs.declared.line.Line.{Line}
 use Rattle.lines.specs.declared.line.Line.TheVariants as line
 use Rattle.nesting.specs.Capped.{capped}
-use Rattle.lines.specs.Conditions.{and_then, at_most}
+use Rattle.nesting.specs.Conditions.{and_then}
 use Rattle.tables.specs.declared.admit.OpenTurn.{OpenTurn}
 use Rattle.tables.specs.declared.fault.AdmissionFault.{AdmissionFault}
 use Rattle.tables.specs.declared.fault.AdmissionFault.TheVariants as fault
@@ -25,7 +25,7 @@ closing at (t ∷ st, n) = Ok (st, turn_steps t n)
 -- A turn opens.
 abbrev pub opening : ℕ → ℕ → Count → Result Count AdmissionFault
 opening at rounds w =
-    cond (nat_lt (length w.0) 8) (cond (at_most 1000 rounds) (Ok (record { rounds = rounds; before = w.1 } ∷ w.0, 0)) (Err (fault.TooManyRounds at))) (Err (fault.TooDeep at))
+    cond (nat_lt (length w.0) 8) (cond (nat_lt rounds 1001) (Ok (record { rounds = rounds; before = w.1 } ∷ w.0, 0)) (Err (fault.TooManyRounds at))) (Err (fault.TooDeep at))
 
 -- One line of the pass.
 abbrev pub step : ℕ → Count → Line → Result Count AdmissionFault
@@ -39,7 +39,7 @@ step at w (line.Loop i n) = Err (fault.RuleLine at)
 
 -- What is answered at the end of a table.
 abbrev pub finish : ℕ → Count → Result ℕ AdmissionFault
-finish at ([], n) = cond (at_most 65535 n) (Ok n) (Err (fault.TooManySteps at))
+finish at ([], n) = cond (nat_lt n 65536) (Ok n) (Err (fault.TooManySteps at))
 finish at (t ∷ st, n) = Err (fault.Unclosed at)
 
 -- The pass from line `at` on.

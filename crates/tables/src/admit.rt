@@ -1,5 +1,5 @@
 ghost use Rattle.std.specs.Prelude.{◌≡◌, [], OnOk};
-ghost use Rattle.nesting.specs.Nesting.{held};
+ghost use Rattle.nesting.specs.Nesting.{view};
 ghost use Rattle.tables.specs.Admission.{admission, Admitted, IsTable};
 ghost use Rattle.tables.specs.Counting.{turn_steps, closing, opening, step, standing, finish, count};
 
@@ -33,14 +33,13 @@ impl OpenTurn {
     }
 }
 
-/// A turn opens: the steps before it are kept until its end.
 fn open_turn(
     stack: &mut Stack<OpenTurn>,
     steps: u32,
     at: usize,
     rounds: u32,
 ) -> Result<u32, AdmissionFault>
-    ensures { opening at rounds (held stack.old, steps) ≡ standing result (held stack.new) }
+    ensures { opening at rounds (view stack.old.items stack.old.depth, steps) ≡ standing result (view stack.new.items stack.new.depth) }
 {
     if stack.len() >= DEPTH {
         return Err(AdmissionFault::TooDeep(at));
@@ -55,9 +54,8 @@ fn open_turn(
     Ok(0)
 }
 
-/// `end`: the steps of the innermost turn are added to those before it.
 fn close_turn(stack: &mut Stack<OpenTurn>, steps: u32, at: usize) -> Result<u32, AdmissionFault>
-    ensures { closing at (held stack.old, steps) ≡ standing result (held stack.new) }
+    ensures { closing at (view stack.old.items stack.old.depth, steps) ≡ standing result (view stack.new.items stack.new.depth) }
 {
     match stack.pop() {
         Some(turn) => Ok(turn.steps(steps)),
@@ -65,14 +63,13 @@ fn close_turn(stack: &mut Stack<OpenTurn>, steps: u32, at: usize) -> Result<u32,
     }
 }
 
-/// The steps after one more line, or what is wrong with the line.
 fn admit_line(
     stack: &mut Stack<OpenTurn>,
     steps: u32,
     at: usize,
     line: &Line,
 ) -> Result<u32, AdmissionFault>
-    ensures { step at (held stack.old, steps) line.now ≡ standing result (held stack.new) }
+    ensures { step at (view stack.old.items stack.old.depth, steps) line.now ≡ standing result (view stack.new.items stack.new.depth) }
 {
     match line {
         Line::Operation(operation) => {
@@ -97,9 +94,8 @@ fn admit_line(
     }
 }
 
-/// The steps of the whole table, which has to be closed and not to take too many.
 fn finish(stack: &Stack<OpenTurn>, steps: u32, lines: usize) -> Result<u32, AdmissionFault>
-    ensures { result ≡ finish lines (held stack.now, steps) }
+    ensures { result ≡ finish lines (view stack.now.items stack.now.depth, steps) }
 {
     if stack.peek(0).is_some() {
         Err(AdmissionFault::Unclosed(lines))
@@ -110,7 +106,6 @@ fn finish(stack: &Stack<OpenTurn>, steps: u32, lines: usize) -> Result<u32, Admi
     }
 }
 
-/// Admission of a table of any length.
 fn count_steps(table: &[Line]) -> Result<u32, AdmissionFault>
     ensures { result ≡ count 0 ([], 0) table.now }
 {

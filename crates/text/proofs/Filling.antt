@@ -3,16 +3,15 @@ use Rattle.std.proofs.Common.{◌≡◌, ℕ, zero, suc, ◌+◌, ◌-◌, ◌<�
 use Rattle.std.proofs.lemmas.List.{append-nil, append_assoc, take-append-drop, length-take-le, length-set, take_more_set, drop-set-lt, drop-drop, length-drop, at_drop_all}
 use Rattle.std.proofs.lemmas.Bool.{eq-eqb, ne_eqb, leb-true, leb-false, le-ltb}
 use Rattle.lines.specs.declared.line.Line.{Line}
-use Rattle.tokens.specs.Meanings.{meanings}
-use Rattle.text.specs.LineSteps.{left, SameLine}
-use Rattle.text.specs.Operands.{line_read}
+use Rattle.text.specs.Meanings.{meanings}
+use Rattle.text.specs.Operands.{line_read, left, SameLine}
 use Rattle.text.specs.Reading.{Reading, refused, preceded, entered, read_lines, reading, answered, answer, filled}
-use Rattle.tokens.specs.TextLines.{text_lines, next_line}
-use Rattle.tokens.specs.Tokens.{tokens, tokens_at}
+use Rattle.text.specs.TextLines.{text_lines, next_line}
+use Rattle.text.specs.Tokens.{tokens, tokens_at}
 use Rattle.text.specs.declared.fault.ReadFault.{ReadFault}
 use Rattle.text.specs.declared.fault.ReadFault.TheVariants as fault
-use Rattle.tokens.specs.declared.reader.Reader.{Reader}
-use Rattle.tokens.proofs.Runs.{size_some}
+use Rattle.text.specs.declared.reader.Reader.{Reader}
+use Rattle.text.proofs.Runs.{size_some}
 use Rattle.text.proofs.LineByLine.{line_at, lines_at, meanings_at}
 
 -- Lines before what reading gives.

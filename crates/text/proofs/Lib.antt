@@ -1,8 +1,8 @@
-pub mod Stepping
+pub mod Digits
+pub mod Runs
+pub mod Lexing
 pub mod Taking
 pub mod LineByLine
-pub mod LinesOf
 pub mod Filling
 pub mod Seeking
 pub mod Limits
-pub mod RuleTexts

@@ -1,28 +1,26 @@
 -- The lines that are read keep within the limits of a text.
 use Rattle.std.proofs.Common.{◌≡◌, ℕ, ◌+◌, ◌-◌, ◌≤◌, min, true, ◌&&◌, eqb, ltb, leb, List, [], ◌∷◌, length, IfSome, IfOk, Some, None, Ok, Err, Option, Result, arith, lit<}
 use Rattle.std.proofs.lemmas.Bool.{cond_both, and_parts, and_from, eqb-false, leb-true, lt-ltb}
-use Rattle.std.specs.Option.{ok_or}
 use Rattle.std.specs.List.{AllByRecursion as All}
 use Rattle.std.specs.Str.{all_ascii_digits}
-use Rattle.lines.specs.Conditions.{and_then}
 use Rattle.lines.specs.Operations.{under, under3}
 use Rattle.lines.specs.Sizes.{Short, LineBelow, TableBelow}
 use Rattle.lines.specs.declared.field.Field.{Field}
 use Rattle.lines.specs.declared.line.Line.{Line}
 use Rattle.lines.specs.declared.line.Line.TheVariants as line
-use Rattle.tokens.specs.Keywords.{keyword_of}
-use Rattle.tokens.specs.Meanings.{Meaning, word, field, number, junk, number_or_junk, field_or, word_or, meanings}
-use Rattle.tokens.specs.Numerals.{decimal_value, digits_value, number_of, field_numbered, field_of}
-use Rattle.text.specs.Operands.{Kind, a_field, a_number, kinds, Value, Values, value_of, applied, line_with, operands, line_of, line_read}
+use Rattle.text.specs.Keywords.{keyword_of, applied}
+use Rattle.text.specs.Meanings.{Meaning, word, field, number, junk, number_or_junk, field_or, word_or, meanings}
+use Rattle.text.specs.Numerals.{decimal_value, digits_value, number_of, field_numbered, field_of}
+use Rattle.text.specs.Operands.{and_then, field_first, number_first, no_more, one_field, two_fields, three_fields, one_number, field_and_number, line_of, line_read}
 use Rattle.text.specs.Reading.{Reading, refused, preceded, entered, read_lines, reading}
-use Rattle.tokens.specs.TextLines.{text_lines}
-use Rattle.tokens.specs.Tokens.{Piece, tokens}
+use Rattle.text.specs.TextLines.{text_lines}
+use Rattle.text.specs.Tokens.{Piece, rest_of, tokens}
 use Rattle.text.specs.declared.fault.ReadFault.{ReadFault}
 use Rattle.text.specs.declared.fault.ReadFault.TheVariants as fault
-use Rattle.tokens.specs.declared.keyword.Binary.{Binary}
-use Rattle.tokens.specs.declared.keyword.Binary.TheVariants as binary
-use Rattle.tokens.specs.declared.keyword.Keyword.{Keyword}
-use Rattle.tokens.specs.declared.keyword.Keyword.TheVariants as key
+use Rattle.text.specs.declared.keyword.Binary.{Binary}
+use Rattle.text.specs.declared.keyword.Binary.TheVariants as binary
+use Rattle.text.specs.declared.keyword.Keyword.{Keyword}
+use Rattle.text.specs.declared.keyword.Keyword.TheVariants as key
 
 -- What a token means.
 abbrev Given : {A : Type 0} → (A → Type 0) → Option A → Type 0
@@ -66,72 +64,92 @@ meanings-below (p ∷ ps) =
     let bs = p.bytes in
     (either_below (keyword_of bs) (field_of bs) (number_of bs) (field_below bs) (number_below bs), meanings-below ps)
 
--- What operands hold.
-abbrev ValueBelow : (k : Kind) → Value k → Type 0
-ValueBelow a_field f = Known f
-ValueBelow a_number n = Short n
-
-abbrev ValuesBelow : (ks : List Kind) → Values ks → Type 0
-ValuesBelow [] vs = Unit {0}
-ValuesBelow (k ∷ ks) vs = ValueBelow k vs.0 × ValuesBelow ks vs.1
-
-value_below : (k : Kind) (m : Meaning) → MeaningBelow m → Given (ValueBelow k) (value_of k m)
-value_below a_field (word w) h = tt
-value_below a_field (field f) h = h
-value_below a_field (number n) h = tt
-value_below a_field junk h = tt
-value_below a_number (word w) h = tt
-value_below a_number (field f) h = tt
-value_below a_number (number n) h = h
-value_below a_number junk h = tt
-
+-- What tokens give.
 then_made : {A B : Type 0} (P : A → Type 0) (Q : B → Type 0) (r : Result A ReadFault) (next : A → Result B ReadFault) → IfOk r P → ((a : A) → P a → IfOk (next a) Q) → IfOk (and_then r next) Q
 then_made P Q (Ok a) next h g = g a h
 then_made P Q (Err e) next h g = tt
 
-given_made : {A : Type 0} (P : A → Type 0) (o : Option A) (e : ReadFault) → Given P o → IfOk (ok_or o e) P
-given_made P None e h = tt
-given_made P (Some a) e h = h
-
-applied-below : (o : Binary) (d a b : Field) → under3 96 d a b ≡ true → LineBelow 96 (line.Operation (applied o d a b))
-applied-below binary.Add d a b h = (h, lit< tt)
-applied-below binary.Sub d a b h = (h, lit< tt)
-applied-below binary.Mul d a b h = (h, lit< tt)
-applied-below binary.And d a b h = (h, lit< tt)
-applied-below binary.Or d a b h = (h, lit< tt)
-applied-below binary.Xor d a b h = (h, lit< tt)
-applied-below binary.Same d a b h = (h, lit< tt)
-applied-below binary.Less d a b h = (h, lit< tt)
-
-line_below : (w : Keyword) (vs : Values (kinds w)) → ValuesBelow (kinds w) vs → LineBelow 96 (line_with w vs)
-line_below key.Word vs h = (h.0, h.1.0)
-line_below key.Copy vs h = (and_from _ _ h.0 h.1.0, lit< tt)
-line_below key.Not vs h = (and_from _ _ h.0 h.1.0, lit< tt)
-line_below (key.Binary o) vs h = applied-below o _ _ _ (and_from _ _ h.0 (and_from _ _ h.1.0 h.1.1.0))
-line_below key.If vs h = h.0
-line_below key.Else vs h = tt
-line_below key.End vs h = tt
-line_below key.Loop vs h = (h.0, h.1.0)
-line_below key.Break vs h = tt
-line_below key.Turn vs h = (h.0, h.1.0)
+rest_below : (ms : List Meaning) → All MeaningBelow ms → All MeaningBelow (rest_of ms)
+rest_below [] h = tt
+rest_below (m ∷ ms) h = h.1
 
 module _ (n : ℕ) where
-  operands-below : (ks : List Kind) (ms : List Meaning) → All MeaningBelow ms → IfOk (operands n ks ms) (ValuesBelow ks)
-  operands-below [] [] h = tt
-  operands-below [] (m ∷ ms) h = tt
-  operands-below (k ∷ ks) [] h = tt
-  operands-below (k ∷ ks) (m ∷ ms) h =
-      then_made (ValueBelow k) (ValuesBelow (k ∷ ks)) _ _ (given_made (ValueBelow k) (value_of k m) _ (value_below k m h.0))
-      (λ v b. then_made (ValuesBelow ks) (ValuesBelow (k ∷ ks)) (operands n ks ms) _ (operands-below ks ms h.1) (λ vs c. (b, c)))
+  field_first_lem : (ms : List Meaning) → All MeaningBelow ms → IfOk (field_first n ms) Known
+  field_first_lem [] h = tt
+  field_first_lem (word k ∷ ms) h = tt
+  field_first_lem (field f ∷ ms) h = h.0
+  field_first_lem (number k ∷ ms) h = tt
+  field_first_lem (junk ∷ ms) h = tt
 
-  some_below : (w : Keyword) (ms : List Meaning) → All MeaningBelow ms → IfOk (and_then (line_of n w ms) (λ x. Ok (Some x))) (Given (LineBelow 96))
-  some_below w ms h =
-      then_made (LineBelow 96) (Given (LineBelow 96)) (line_of n w ms) _
-      (then_made (ValuesBelow (kinds w)) (LineBelow 96) (operands n (kinds w) ms) _ (operands-below (kinds w) ms h) (line_below w)) (λ x b. b)
+  number_first_lem : (ms : List Meaning) → All MeaningBelow ms → IfOk (number_first n ms) Short
+  number_first_lem [] h = tt
+  number_first_lem (word k ∷ ms) h = tt
+  number_first_lem (field f ∷ ms) h = tt
+  number_first_lem (number k ∷ ms) h = h.0
+  number_first_lem (junk ∷ ms) h = tt
+
+  no_more_lem : {A : Type 0} (P : A → Type 0) (a : A) (ms : List Meaning) → P a → IfOk (and_then (no_more n ms) (λ _. Ok a)) P
+  no_more_lem P a [] h = h
+  no_more_lem P a (m ∷ ms) h = tt
+
+  one_field_lem : (ms : List Meaning) → All MeaningBelow ms → IfOk (one_field n ms) Known
+  one_field_lem ms h = then_made Known _ (field_first n ms) _ (field_first_lem ms h) (λ a b. no_more_lem Known a (rest_of ms) b)
+
+  abbrev TwoBelow : Field × Field → Type 0
+  TwoBelow p = (under 96 p.0 && under 96 p.1) ≡ true
+
+  two_fields_lem : (ms : List Meaning) → All MeaningBelow ms → IfOk (two_fields n ms) TwoBelow
+  two_fields_lem ms h =
+      then_made Known TwoBelow (field_first n ms) _ (field_first_lem ms h)
+      (λ d b. then_made Known TwoBelow (one_field n (rest_of ms)) _ (one_field_lem (rest_of ms) (rest_below ms h)) (λ a c. and_from _ _ b c))
+
+  abbrev ThreeBelow : Field × Field × Field → Type 0
+  ThreeBelow p = under3 96 p.0 p.1 p.2 ≡ true
+
+  three_fields_lem : (ms : List Meaning) → All MeaningBelow ms → IfOk (three_fields n ms) ThreeBelow
+  three_fields_lem ms h =
+      then_made Known ThreeBelow (field_first n ms) _ (field_first_lem ms h)
+      (λ d b. then_made TwoBelow ThreeBelow (two_fields n (rest_of ms)) _ (two_fields_lem (rest_of ms) (rest_below ms h)) (λ p c. and_from _ _ b c))
+
+  one_number_lem : (ms : List Meaning) → All MeaningBelow ms → IfOk (one_number n ms) Short
+  one_number_lem ms h = then_made Short Short (number_first n ms) _ (number_first_lem ms h) (λ k b. no_more_lem Short k (rest_of ms) b)
+
+  abbrev PairBelow : Field × ℕ → Type 0
+  PairBelow p = Known p.0 × Short p.1
+
+  field_and_number_lem : (ms : List Meaning) → All MeaningBelow ms → IfOk (field_and_number n ms) PairBelow
+  field_and_number_lem ms h =
+      then_made Known PairBelow (field_first n ms) _ (field_first_lem ms h)
+      (λ d b. then_made Short PairBelow (one_number n (rest_of ms)) _ (one_number_lem (rest_of ms) (rest_below ms h)) (λ k c. (b, c)))
+
+  applied-below : (k : Binary) (d a b : Field) → under3 96 d a b ≡ true → LineBelow 96 (line.Operation (applied k d a b))
+  applied-below binary.Add d a b h = (h, lit< tt)
+  applied-below binary.Sub d a b h = (h, lit< tt)
+  applied-below binary.Mul d a b h = (h, lit< tt)
+  applied-below binary.And d a b h = (h, lit< tt)
+  applied-below binary.Or d a b h = (h, lit< tt)
+  applied-below binary.Xor d a b h = (h, lit< tt)
+  applied-below binary.Same d a b h = (h, lit< tt)
+  applied-below binary.Less d a b h = (h, lit< tt)
+
+  line_below : (k : Keyword) (ms : List Meaning) → All MeaningBelow ms → IfOk (line_of n k ms) (LineBelow 96)
+  line_below key.Word ms h = then_made PairBelow (LineBelow 96) (field_and_number n ms) _ (field_and_number_lem ms h) (λ p b. b)
+  line_below key.Copy ms h = then_made TwoBelow (LineBelow 96) (two_fields n ms) _ (two_fields_lem ms h) (λ p b. (b, lit< tt))
+  line_below key.Not ms h = then_made TwoBelow (LineBelow 96) (two_fields n ms) _ (two_fields_lem ms h) (λ p b. (b, lit< tt))
+  line_below (key.Binary k) ms h = then_made ThreeBelow (LineBelow 96) (three_fields n ms) _ (three_fields_lem ms h) (λ p b. applied-below k p.0 p.1 p.2 b)
+  line_below key.If ms h = then_made Known (LineBelow 96) (one_field n ms) _ (one_field_lem ms h) (λ a b. b)
+  line_below key.Else ms h = no_more_lem (LineBelow 96) _ ms tt
+  line_below key.End ms h = no_more_lem (LineBelow 96) _ ms tt
+  line_below key.Loop ms h = then_made PairBelow (LineBelow 96) (field_and_number n ms) _ (field_and_number_lem ms h) (λ p b. b)
+  line_below key.Break ms h = no_more_lem (LineBelow 96) _ ms tt
+  line_below key.Turn ms h = then_made PairBelow (LineBelow 96) (field_and_number n ms) _ (field_and_number_lem ms h) (λ p b. b)
+
+  some_below : (k : Keyword) (ms : List Meaning) → All MeaningBelow ms → IfOk (and_then (line_of n k ms) (λ x. Ok (Some x))) (Given (LineBelow 96))
+  some_below k ms h = then_made (LineBelow 96) (Given (LineBelow 96)) (line_of n k ms) _ (line_below k ms h) (λ x b. b)
 
   read_below : (ms : List Meaning) → All MeaningBelow ms → IfOk (line_read n ms) (Given (LineBelow 96))
   read_below [] h = tt
-  read_below (word w ∷ ms) h = some_below w ms h.1
+  read_below (word k ∷ ms) h = some_below k ms h.1
   read_below (field f ∷ ms) h = tt
   read_below (number k ∷ ms) h = tt
   read_below (junk ∷ ms) h = tt

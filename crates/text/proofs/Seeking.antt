@@ -3,15 +3,15 @@ use Rattle.std.proofs.Common.{◌≡◌, ℕ, zero, suc, ◌+◌, ◌-◌, ◌<�
 use Rattle.std.proofs.lemmas.List.{at_drop_all, length-drop}
 use Rattle.std.proofs.lemmas.Bool.{cases_lt, leb-true, leb-false, ltb-true, ltb-false}
 use Rattle.std.specs.List.{slice_get}
-use Rattle.tokens.specs.Meanings.{Seen, viewed, first_seen}
-use Rattle.text.specs.LineSteps.{SameLine}
+use Rattle.text.specs.Meanings.{Seen, viewed, first_seen}
+use Rattle.text.specs.Operands.{SameLine}
 use Rattle.text.specs.Reading.{token_lines, written_by}
-use Rattle.tokens.specs.TextLines.{text_lines, numbered_line, next_line}
-use Rattle.tokens.specs.Tokens.{Piece, some_token, tokens, tokens_at, after_token}
-use Rattle.tokens.specs.declared.reader.Reader.{Reader}
-use Rattle.tokens.specs.declared.token.Token.{Token}
+use Rattle.text.specs.TextLines.{text_lines, numbered_line, next_line}
+use Rattle.text.specs.Tokens.{Piece, some_token, tokens, tokens_at, after_token}
+use Rattle.text.specs.declared.reader.Reader.{Reader}
+use Rattle.text.specs.declared.token.Token.{Token}
 use Rattle.text.proofs.LineByLine.{line_at, lines_at, some_at}
-use Rattle.tokens.proofs.Runs.{size_some}
+use Rattle.text.proofs.Runs.{size_some}
 use Rattle.text.proofs.Taking.{took_same}
 
 -- Line n from a place on, from 0.
@@ -34,9 +34,6 @@ module _ (text : List ℕ) (at : ℕ) where
   pub from_next : (n : ℕ) → (n ≡ 0 → ⊥) → line_from text at n ≡ line_from text (next_line text at) (n - 1)
   from_next zero h = absurd (h refl)
   from_next (suc n) h = let e : n ≡ suc n - 1 = omega arith in from_suc n ∙ ap (line_from text (next_line text at)) e
-
-pub none_numbered : (text : List ℕ) (number : ℕ) → number ≡ 0 → None ≡ numbered_line text number
-none_numbered text number e = sym (ap (numbered_line text) e)
 
 pub from_start : (text : List ℕ) (number : ℕ) → (number ≡ 0 → ⊥) → line_from text 0 (number - 1) ≡ numbered_line text number
 from_start text zero h = absurd (h refl)

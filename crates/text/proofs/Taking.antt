@@ -1,20 +1,17 @@
 -- What a reader has left after it took a token.
 use Rattle.std.proofs.Common.{◌≡◌, ℕ, List, [], ◌∷◌, Some, None, Ok, Err, Option, Result, sym, refl, ap, ◌∙◌, arith}
 use Rattle.std.specs.Option.{ok_or}
-use Rattle.lines.specs.Conditions.{and_then}
 use Rattle.lines.specs.declared.line.Line.{Line}
 use Rattle.text.specs.declared.fault.ReadFault.{ReadFault}
 use Rattle.text.specs.declared.fault.ReadFault.TheVariants as fault
-use Rattle.tokens.specs.declared.keyword.Keyword.{Keyword}
-use Rattle.tokens.specs.Meanings.{Meaning, as_word, meaning, meanings, Seen, seen, viewed, meant, first_seen}
-use Rattle.text.specs.Operands.{line_of, line_read}
-use Rattle.text.specs.LineSteps.{line_after, left, SameLine}
-use Rattle.tokens.specs.TextLines.{next_line}
-use Rattle.tokens.specs.Tokens.{Piece, rest_of, tokens_at, after_token}
-use Rattle.tokens.specs.declared.reader.Reader.{Reader}
-use Rattle.tokens.specs.declared.token.Token.{Token}
-use Rattle.tokens.proofs.Lexing.{tokens-after, line_after}
-use Rattle.text.proofs.Stepping.{steps_are}
+use Rattle.text.specs.declared.keyword.Keyword.{Keyword}
+use Rattle.text.specs.Meanings.{Meaning, as_word, meaning, meanings, Seen, seen, viewed, meant, first_seen}
+use Rattle.text.specs.Operands.{and_then, line_of, line_read, left, SameLine}
+use Rattle.text.specs.TextLines.{next_line}
+use Rattle.text.specs.Tokens.{Piece, rest_of, tokens_at, after_token}
+use Rattle.text.specs.declared.reader.Reader.{Reader}
+use Rattle.text.specs.declared.token.Token.{Token}
+use Rattle.text.proofs.Lexing.{tokens-after, line_after}
 
 meanings_rest : (ts : List Piece) → meanings (rest_of ts) ≡ rest_of (meanings ts)
 meanings_rest [] = refl
@@ -75,8 +72,8 @@ module _ (n : ℕ) (all ms : List Meaning) (m : Meaning) (w : Option Keyword) (h
   pub no_word : (e : ReadFault) → Err e ≡ ok_or w (fault.NoLineWord n) → Err e ≡ line_read n all
   no_word e q = begun (Err e) q
 
-  pub no_line : (k : Keyword) → Ok k ≡ ok_or w (fault.NoLineWord n) → (e : ReadFault) (rest : List Meaning) → rest ≡ ms → Err e ≡ line_after n k rest → Err e ≡ line_read n all
-  no_line k q e rest s f = ap written (f ∙ steps_are n k rest ∙ ap (line_of n k) s) ∙ begun (Ok k) q
+  pub no_line : (k : Keyword) → Ok k ≡ ok_or w (fault.NoLineWord n) → (e : ReadFault) (rest : List Meaning) → rest ≡ ms → Err e ≡ line_of n k rest → Err e ≡ line_read n all
+  no_line k q e rest s f = ap written (f ∙ ap (line_of n k) s) ∙ begun (Ok k) q
 
-  pub good_line : (k : Keyword) → Ok k ≡ ok_or w (fault.NoLineWord n) → (x : Line) (rest : List Meaning) → rest ≡ ms → Ok x ≡ line_after n k rest → Ok (Some x) ≡ line_read n all
-  good_line k q x rest s f = ap written (f ∙ steps_are n k rest ∙ ap (line_of n k) s) ∙ begun (Ok k) q
+  pub good_line : (k : Keyword) → Ok k ≡ ok_or w (fault.NoLineWord n) → (x : Line) (rest : List Meaning) → rest ≡ ms → Ok x ≡ line_of n k rest → Ok (Some x) ≡ line_read n all
+  good_line k q x rest s f = ap written (f ∙ ap (line_of n k) s) ∙ begun (Ok k) q

@@ -1,90 +1,87 @@
--- The operands of each line word, and the line that the tokens of a text line write.
-use Rattle.std.specs.Prelude.{ℕ, List, [], ◌∷◌, Some, None, Ok, Err, Option, Result}
+-- The line that the tokens of a text line write, or what is wrong with them.
+use Rattle.std.specs.Prelude.{◌≡◌, ℕ, List, [], ◌∷◌, Some, None, Ok, Err, Option, Result}
 use Rattle.std.specs.Option.{ok_or}
-use Rattle.lines.specs.Conditions.{and_then}
 use Rattle.lines.specs.declared.field.Field.{Field}
 use Rattle.lines.specs.declared.line.Line.{Line}
 use Rattle.lines.specs.declared.line.Line.TheVariants as line
-use Rattle.lines.specs.declared.operation.Operation.{Operation}
 use Rattle.lines.specs.declared.operation.Operation.TheVariants as op
-use Rattle.tokens.specs.Meanings.{Meaning, as_word, as_field, as_number}
-use Rattle.tokens.specs.declared.keyword.Binary.{Binary}
-use Rattle.tokens.specs.declared.keyword.Binary.TheVariants as binary
-use Rattle.tokens.specs.declared.keyword.Keyword.{Keyword}
-use Rattle.tokens.specs.declared.keyword.Keyword.TheVariants as key
+use Rattle.text.specs.Keywords.{applied}
+use Rattle.text.specs.Meanings.{Meaning, as_word, as_field, as_number, meanings}
+use Rattle.text.specs.TextLines.{next_line}
+use Rattle.text.specs.Tokens.{rest_of, tokens_at}
 use Rattle.text.specs.declared.fault.ReadFault.{ReadFault}
 use Rattle.text.specs.declared.fault.ReadFault.TheVariants as fault
+use Rattle.text.specs.declared.keyword.Keyword.{Keyword}
+use Rattle.text.specs.declared.keyword.Keyword.TheVariants as key
+use Rattle.text.specs.declared.reader.Reader.{Reader}
 
--- An operand is a field or a number.
-pub data Kind : Type 0 where
-  a_field : Kind
-  a_number : Kind
+-- What follows a result that is no fault.
+abbrev pub and_then : {A B : Type 0} → Result A ReadFault → (A → Result B ReadFault) → Result B ReadFault
+and_then (Ok a) next = next a
+and_then (Err e) next = Err e
 
--- The operands that each line word takes, from the left.
-abbrev pub kinds : Keyword → List Kind
-kinds key.Word = a_field ∷ a_number ∷ []
-kinds key.Copy = a_field ∷ a_field ∷ []
-kinds key.Not = a_field ∷ a_field ∷ []
-kinds (key.Binary o) = a_field ∷ a_field ∷ a_field ∷ []
-kinds key.If = a_field ∷ []
-kinds key.Else = []
-kinds key.End = []
-kinds key.Loop = a_field ∷ a_number ∷ []
-kinds key.Break = []
-kinds key.Turn = a_field ∷ a_number ∷ []
+-- In all that follows n is the number of the text line. The first token has to be a field.
+abbrev pub field_first : ℕ → List Meaning → Result Field ReadFault
+field_first n [] = Err (fault.MissingOperand n)
+field_first n (m ∷ ms) = ok_or (as_field m) (fault.BadOperand n)
 
--- What an operand holds.
-abbrev pub Value : Kind → Type 0
-Value a_field = Field
-Value a_number = ℕ
+-- The first token has to be a number.
+abbrev pub number_first : ℕ → List Meaning → Result ℕ ReadFault
+number_first n [] = Err (fault.MissingOperand n)
+number_first n (m ∷ ms) = ok_or (as_number m) (fault.BadOperand n)
 
--- What operands hold, one after the other.
-abbrev pub Values : List Kind → Type 0
-Values [] = Unit {0}
-Values (k ∷ ks) = Value k × Values ks
+-- No token may be left.
+abbrev pub no_more : ℕ → List Meaning → Result (Unit {0}) ReadFault
+no_more n [] = Ok tt
+no_more n (m ∷ ms) = Err (fault.ExtraToken n)
 
--- The operation that a line word names, into d from a and b.
-abbrev pub applied : Binary → Field → Field → Field → Operation
-applied binary.Add d a b = op.Add d a b
-applied binary.Sub d a b = op.Sub d a b
-applied binary.Mul d a b = op.Mul d a b
-applied binary.And d a b = op.And d a b
-applied binary.Or d a b = op.Or d a b
-applied binary.Xor d a b = op.Xor d a b
-applied binary.Same d a b = op.Same d a b
-applied binary.Less d a b = op.Less d a b
+-- One field and nothing else.
+abbrev pub one_field : ℕ → List Meaning → Result Field ReadFault
+one_field n ms = and_then (field_first n ms) (λ a. and_then (no_more n (rest_of ms)) (λ _. Ok a))
 
--- The line of a line word with its operands.
-abbrev pub line_with : (w : Keyword) → Values (kinds w) → Line
-line_with key.Word vs = line.Operation (op.Word vs.0 vs.1.0)
-line_with key.Copy vs = line.Operation (op.Copy vs.0 vs.1.0)
-line_with key.Not vs = line.Operation (op.Not vs.0 vs.1.0)
-line_with (key.Binary o) vs = line.Operation (applied o vs.0 vs.1.0 vs.1.1.0)
-line_with key.If vs = line.If vs.0
-line_with key.Else vs = line.Else
-line_with key.End vs = line.End
-line_with key.Loop vs = line.Loop vs.0 vs.1.0
-line_with key.Break vs = line.Break
-line_with key.Turn vs = line.Turn vs.0 vs.1.0
+-- Two fields and nothing else.
+abbrev pub two_fields : ℕ → List Meaning → Result (Field × Field) ReadFault
+two_fields n ms = and_then (field_first n ms) (λ d. and_then (one_field n (rest_of ms)) (λ a. Ok (d, a)))
 
--- The operand that a token is, if it is one of that kind.
-abbrev pub value_of : (k : Kind) → Meaning → Option (Value k)
-value_of a_field m = as_field m
-value_of a_number m = as_number m
+-- Three fields and nothing else.
+abbrev pub three_fields : ℕ → List Meaning → Result (Field × Field × Field) ReadFault
+three_fields n ms = and_then (field_first n ms) (λ d. and_then (two_fields n (rest_of ms)) (λ p. Ok (d, p.0, p.1)))
 
--- The operands that the tokens of text line n are, or what is wrong first, from the left: one that is missing, one that is not of its kind, or a
--- token too many.
-abbrev pub operands : ℕ → (ks : List Kind) → List Meaning → Result (Values ks) ReadFault
-operands n [] [] = Ok tt
-operands n [] (m ∷ ms) = Err (fault.ExtraToken n)
-operands n (k ∷ ks) [] = Err (fault.MissingOperand n)
-operands n (k ∷ ks) (m ∷ ms) = and_then (ok_or (value_of k m) (fault.BadOperand n)) (λ v. and_then (operands n ks ms) (λ vs. Ok (v, vs)))
+-- A number and nothing else.
+abbrev pub one_number : ℕ → List Meaning → Result ℕ ReadFault
+one_number n ms = and_then (number_first n ms) (λ k. and_then (no_more n (rest_of ms)) (λ _. Ok k))
 
--- The line of a line word and the tokens after it, on text line n.
+-- A field, a number and nothing else.
+abbrev pub field_and_number : ℕ → List Meaning → Result (Field × ℕ) ReadFault
+field_and_number n ms = and_then (field_first n ms) (λ d. and_then (one_number n (rest_of ms)) (λ k. Ok (d, k)))
+
+-- A line whose line word stands alone.
+abbrev pub alone : ℕ → Line → List Meaning → Result Line ReadFault
+alone n x ms = and_then (no_more n ms) (λ _. Ok x)
+
+-- The line of a line word and the operands after it.
 abbrev pub line_of : ℕ → Keyword → List Meaning → Result Line ReadFault
-line_of n w ms = and_then (operands n (kinds w) ms) (λ vs. Ok (line_with w vs))
+line_of n key.Word ms = and_then (field_and_number n ms) (λ p. Ok (line.Operation (op.Word p.0 p.1)))
+line_of n key.Copy ms = and_then (two_fields n ms) (λ p. Ok (line.Operation (op.Copy p.0 p.1)))
+line_of n key.Not ms = and_then (two_fields n ms) (λ p. Ok (line.Operation (op.Not p.0 p.1)))
+line_of n (key.Binary k) ms = and_then (three_fields n ms) (λ p. Ok (line.Operation (applied k p.0 p.1 p.2)))
+line_of n key.If ms = and_then (one_field n ms) (λ a. Ok (line.If a))
+line_of n key.Else ms = alone n line.Else ms
+line_of n key.End ms = alone n line.End ms
+line_of n key.Loop ms = and_then (field_and_number n ms) (λ p. Ok (line.Loop p.0 p.1))
+line_of n key.Break ms = alone n line.Break ms
+line_of n key.Turn ms = and_then (field_and_number n ms) (λ p. Ok (line.Turn p.0 p.1))
 
--- The line that the tokens of text line n write, the first of which has to be a line word. Without tokens there is none.
+-- The line that the tokens of a text line write, the first of which has to be a line word. Without tokens there is none.
 abbrev pub line_read : ℕ → List Meaning → Result (Option Line) ReadFault
 line_read n [] = Ok None
-line_read n (m ∷ ms) = and_then (ok_or (as_word m) (fault.NoLineWord n)) (λ w. and_then (line_of n w ms) (λ x. Ok (Some x)))
+line_read n (m ∷ ms) = and_then (ok_or (as_word m) (fault.NoLineWord n)) (λ k. and_then (line_of n k ms) (λ x. Ok (Some x)))
+
+-- What the tokens mean that a reader still has on its line.
+abbrev pub left : Reader → List Meaning
+left r = meanings (tokens_at r.text.now r.at)
+
+-- A reader that went on within its line: it has the same text, and the same line comes next.
+pub record SameLine (r s : Reader) : Type 0 where
+  pub text : s.text.now ≡ r.text.now
+  pub next : next_line r.text.now s.at ≡ next_line r.text.now r.at

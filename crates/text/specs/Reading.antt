@@ -2,10 +2,10 @@
 use Rattle.std.specs.Prelude.{ℕ, ◌+◌, ◌-◌, min, cond, List, [], ◌∷◌, ◌++◌, length, drop, Some, None, Ok, Err, Option, Result, ◌==◌, nat_lt}
 use Rattle.std.specs.List.{slice_get}
 use Rattle.lines.specs.declared.line.Line.{Line}
-use Rattle.tokens.specs.Meanings.{meanings}
+use Rattle.text.specs.Meanings.{meanings}
 use Rattle.text.specs.Operands.{line_read}
-use Rattle.tokens.specs.TextLines.{text_lines}
-use Rattle.tokens.specs.Tokens.{tokens, some_token}
+use Rattle.text.specs.TextLines.{text_lines}
+use Rattle.text.specs.Tokens.{tokens, some_token}
 use Rattle.text.specs.declared.fault.ReadFault.{ReadFault}
 use Rattle.text.specs.declared.fault.ReadFault.TheVariants as fault
 

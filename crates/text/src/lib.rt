@@ -1,6 +1,11 @@
 //! From the bytes of a rule text to a table of lines.
 
 pub mod fault;
+pub mod keyword;
 mod line_reader;
+mod numeral;
+pub mod reader;
+mod scan;
 pub mod table;
 pub mod text_lines;
+pub mod token;

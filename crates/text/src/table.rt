@@ -1,12 +1,10 @@
 ghost use Rattle.std.specs.Prelude.{◌≡◌, ◌≤◌, length};
 ghost use Rattle.lines.specs.Sizes.{TableBelow};
 ghost use Rattle.text.specs.Reading.{reading, answer, filled};
-ghost use Rattle.text.specs.RuleTexts.{AcceptsExactly};
 
 use crate::fault::ReadFault;
-use crate::line_reader::read_line;
+use crate::reader::Reader;
 use lines::line::Line;
-use tokens::reader::Reader;
 
 /// How many bytes a text may have.
 pub const MAX_TEXT: usize = 65_536;
@@ -18,7 +16,6 @@ pub const MAX_LINES: usize = 2_400;
 pub fn read(text: &[u8], table: &mut [Line]) -> Result<usize, ReadFault>
     ensures answer { result ≡ answer (reading text.now (length table.old)) }
     ensures table { table.new ≡ filled (reading text.now (length table.old)) table.old }
-    ensures exact { AcceptsExactly text.now (length table.old) }
     ensures below { TableBelow 96 (reading text.now (length table.old)).lines }
     ensures few { length (reading text.now (length table.old)).lines ≤ 2400 }
 {
@@ -30,7 +27,7 @@ pub fn read(text: &[u8], table: &mut [Line]) -> Result<usize, ReadFault>
     let mut number = 1;
     let mut count = 0;
     while !reader.is_at_end() {
-        if let Some(line) = read_line(&mut reader, number)? {
+        if let Some(line) = reader.line(number)? {
             if count == room {
                 return Err(ReadFault::TooManyLines(number));
             }

@@ -1,16 +1,12 @@
 ghost use Rattle.std.specs.Prelude.{◌≡◌};
-ghost use Rattle.tokens.specs.TextLines.{held, numbered_line, line_start, LinesOf, text_lines};
-ghost use Rattle.tokens.specs.Tokens.{PartAt};
 ghost use Rattle.text.specs.Reading.{written_by};
-ghost use Rattle.text.specs.RuleTexts.{ReadFromText};
+ghost use Rattle.text.specs.TextLines.{held, numbered_line};
 
-use tokens::reader::Reader;
+use crate::reader::Reader;
 
 /// The text line of that number, counted from 1, without its end. There is none for 0 and past the text's end.
 pub fn line_text(text: &[u8], number: usize) -> Option<&[u8]>
-    ensures value { held result ≡ numbered_line text.now number }
-    ensures part { PartAt text.now (line_start text.now number) (held result) }
-    ensures lines { LinesOf text.now (text_lines text.now) }
+    ensures { held result ≡ numbered_line text.now number }
 {
     if number == 0 {
         return None;
@@ -30,8 +26,7 @@ pub fn line_text(text: &[u8], number: usize) -> Option<&[u8]>
 
 /// The number, from 1, of the text line that table line `n`, from 0, was read from: of the text lines with a token, the one with `n` before it.
 pub fn text_line_of(text: &[u8], n: usize) -> Option<usize>
-    ensures value { result ≡ written_by text.now n }
-    ensures source { ReadFromText text.now n }
+    ensures { result ≡ written_by text.now n }
 {
     let mut reader = Reader::new(text);
     let mut number = 1;

@@ -3,10 +3,10 @@ use lines::line::Line;
 use lines::operation::Operation;
 use std::alloc::{AllocError, Global};
 use std::test::Fail;
+use text::reader::Reader;
 use text::table::{MAX_LINES, MAX_TEXT, read};
 use text::text_lines::{line_text, text_line_of};
-use tokens::reader::Reader;
-use tokens::token::Token;
+use text::token::Token;
 
 /// The number and the place of the refusal, or 0 and the count of the lines.
 fn outcome(text: &[u8], table: &mut [Line]) -> (u32, usize) {

@@ -1,15 +1,35 @@
 use Rattle.std.proofs.Common.{◌≡◌, ℕ, ◌<◌, ◌≤◌, List, length, take, Ok, sym, ap, ◌∙◌, subst, arith}
 use Rattle.lines.specs.Overwrites.{overwrite}
-use Rattle.lines.specs.Sizes.{TableBelow}
 use Rattle.lines.specs.declared.line.Line.{Line}
-use Rattle.rules.specs.CheckedRules.{rule_lines_of}
 use Rattle.tables.specs.Admission.{Admitted}
 use Rattle.balance.specs.Balancing.{balanced_lines_of}
-use Rattle.balance.proofs.Lent.{writes, always, sized, needs, number_of, refused, refused_table, done, done_table, done_front}
+use Rattle.balance.proofs.Lent.{writes, always, number_of, refused, refused_table, done, done_table, done_front}
 use Rattle.balance.proofs.balance.balance.Goals as goal
 
 pub returns-then-needed-table : goal.returns-then-needed-table
-returns-then-needed-table c = ?
+returns-then-needed-table c =
+    let lines = c.args.lines.now in
+    let table = c.args.table.now in
+    let out = balanced_lines_of lines in
+    let n = number_of lines _ _ _ c.requires c.write-rule-needed.ensures in
+    let h : length table < length out = omega arith in
+    record { answer = refused out table h; table = refused_table out table h; written = tt; always = always lines c.requires }
 
 pub returns : goal.returns
-returns c = ?
+returns c =
+    let lines = c.args.lines.now in
+    let table = c.args.table.now in
+    let out = balanced_lines_of lines in
+    let n = number_of lines _ _ _ c.requires c.write-rule-needed.ensures in
+    let m = number_of lines _ _ _ c.requires c.write-rule.ensures in
+    let h : length out ≤ length table = omega arith in
+    let left : c.write-rule.new.table ≡ overwrite table 0 out = c.write-rule.ensures.entries ∙ ap (overwrite table 0) (writes lines c.requires) in
+    record {
+      answer = ap Ok m ∙ done out table h;
+      table = left ∙ done_table out table h;
+      written = record {
+        within = omega (arith, c.write-rule.auto.table);
+        admitted = subst (λ (l : List Line). Admitted l) (sym (ap (λ (k : ℕ). take k c.write-rule.new.table) m ∙ ap (take (length out)) left ∙ done_front out table h)) (always lines c.requires).admitted;
+      };
+      always = always lines c.requires;
+    }

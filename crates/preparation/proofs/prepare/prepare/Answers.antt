@@ -1,32 +1,15 @@
 use Rattle.std.proofs.Common.{◌≡◌, List, length, take, sym, ap, ◌∙◌, subst, arith}
 use Rattle.std.proofs.lemmas.Result.{err_from_is_err_and}
 use Rattle.lines.specs.declared.line.Line.{Line}
-use Rattle.listing.specs.RoundTrip.{ReadsBack}
-use Rattle.listing.proofs.RoundTrip.{reads_back}
+use Rattle.rules.specs.Checks.{Checked}
 use Rattle.text.specs.Reading.{Reading, reading}
-use Rattle.preparation.specs.Preparing.{Balanced, balancing}
-use Rattle.preparation.proofs.Explained.{balancing_explained, answer_explained}
-use Rattle.preparation.proofs.Fronts.{read_count, read_within, read_front, read_part, refused-after, done_after, second_after, table_back, refused_read, refused_table}
+use Rattle.preparation.proofs.Fronts.{read_count, read_within, read_front, read_part, refused-after, done_after, second_after}
 use Rattle.preparation.proofs.prepare.prepare.Goals as goal
 
 pub slice-bounds-check-and-balance-end : goal.slice-bounds-check-and-balance-end
 slice-bounds-check-and-balance-end c =
     let r = reading c.args.text.now (length c.args.rule.now) in
     read_within r c.in-ok-rule-lines.rule-lines c.args.rule.now c.read.new.table c.in-ok-rule-lines.ensures.answer c.read.ensures.table c.read.auto.table
-
-pub returns-in-err-rule-lines : goal.returns-in-err-rule-lines
-returns-in-err-rule-lines c =
-    let entries = length c.args.rule.now in
-    let r = reading c.args.text.now entries in
-    let p = err_from_is_err_and c.from-residual.result c.from-residual.ensures.1 in
-    let refused = c.in-err-rule-lines.ensures.answer in
-    rw (p.1, p.2) (record {
-      answer = refused_read r _ refused (length c.args.table.now);
-      rule = c.read.ensures.table;
-      table = refused_table r _ refused c.args.table.now;
-      ready = tt;
-      explained = answer_explained c.args.text.now entries _ (sym refused);
-    })
 
 pub returns-in-err-costs : goal.returns-in-err-costs
 returns-in-err-costs c =
@@ -38,14 +21,13 @@ returns-in-err-costs c =
     let same = read_part r n c.args.rule.now c.read.new.table ok left kept in
     let room = length c.args.table.now in
     let p = err_from_is_err_and c.from-residual-in-err-costs.result c.from-residual-in-err-costs.ensures.1 in
-    let e = c.in-err-costs.ensures.answer in
+    let e = sym c.in-err-costs.ensures.answer in
     let answer = refused-after r n c.args.rule.now c.read.new.table ok left kept _ same room _ e in
     rw (p.1, p.2) (record {
-      answer = answer;
+      answer = sym answer;
       rule = left;
       table = c.check-and-balance.ensures.table ∙ second_after r n c.args.rule.now c.read.new.table ok left kept _ same room c.args.table.now;
       ready = tt;
-      explained = balancing_explained c.args.text.now (length c.args.rule.now) room _ (ap (λ (l : List Line). balancing l room) (sym same) ∙ sym e);
     })
 
 pub returns : goal.returns
@@ -60,21 +42,12 @@ returns c =
     let same = read_part r n before after ok left kept in
     let front = read_front r n before after ok left kept in
     let room = length c.args.table.now in
-    let e = c.in-ok-costs.ensures.answer in
+    let e = sym c.in-ok-costs.ensures.answer in
     let answer = done_after r n before after ok left kept _ same room _ _ e in
     let ready = c.in-ok-costs.ensures.ready in
-    let m = c.in-ok-costs.balanced-lines in
-    let balanced = subst (λ (l : List Line). Balanced l (take m c.check-and-balance.new.table) c.in-ok-costs.costs) (same ∙ sym front) ready.1 in
     record {
-      answer = answer;
+      answer = sym answer;
       rule = left;
       table = c.check-and-balance.ensures.table ∙ second_after r n before after ok left kept _ same room c.args.table.now;
-      ready = record {
-        rule_within = read_within r n before after ok left kept;
-        table_within = ready.0;
-        balanced = balanced;
-        rule_back = subst ReadsBack (sym front) (reads_back r.lines c.read.ensures.below c.read.ensures.few);
-        table_back = table_back _ _ _ ready.1;
-      };
-      explained = tt;
+      ready = record { within = read_within r n before after ok left kept; checked = subst (λ (l : List Line). Checked l) (same ∙ sym front) ready.0; written = ready.1 };
     }

@@ -3,7 +3,6 @@ use Rattle.std.proofs.lemmas.Result.{err_from_is_err_and}
 use Rattle.text.specs.Reading.{answer, filled}
 use Rattle.text.proofs.Filling.{Progress, progress_start, progress_at, progress_none, progress_some, open_at, ended_at, reading_is, ended_answer, ended_table, faulty_answer, faulty_table, full_answer, full_table, advances}
 use Rattle.text.proofs.Limits.{limited}
-use Rattle.text.proofs.RuleTexts.{accepts}
 use Rattle.text.proofs.table.read.Goals as goal
 use Rattle.text.proofs.table.read.Goals.{in-Some+else-count-room, in-default}
 
@@ -16,13 +15,13 @@ loop-reader-preserved c =
     let room = c.min-room.result in
     let old = c.args.table.now in
     let r = c.loop-reader.reader in
-    let s = c.read-line.new.reader in
+    let s = c.line.new.self in
     let t = c.next-line.new.self in
     let number = c.loop-reader.number in
     let p = c.loop-reader.invariant in
     let h = open_at text room old r number _ _ p c.loop-reader-test.ensures in
     let value = c.in-ok-line.ensures.value in
-    let on = c.read-line.ensures.same in
+    let on = c.line.ensures.same in
     elim c.match-branch-2.branch [
       | in-Some+else-count-room w ↦ progress_at text room old t _ _ _ _ _ w.count-is w.table-is (progress_some text room old r number _ _ p s t h on c.next-line.ensures.text c.next-line.ensures.at _ (ap Ok (sym w.in-Some.is) ∙ value) w.if-count-room.false)
       | in-default w ↦ progress_at text room old t _ _ _ _ _ w.count-is w.table-is (progress_none text room old r number _ _ p s t h on c.next-line.ensures.text c.next-line.ensures.at (ap Ok (sym w.in-default.is) ∙ value))
@@ -36,7 +35,7 @@ loop-reader-smaller c =
     let r = c.loop-reader.reader in
     let p = c.loop-reader.invariant in
     let h = open_at text room old r _ _ _ p c.loop-reader-test.ensures in
-    let a = advances text room old r _ _ _ p c.read-line.new.reader c.next-line.new.self h c.read-line.ensures.same c.next-line.ensures.text c.next-line.ensures.at in
+    let a = advances text room old r _ _ _ p c.line.new.self c.next-line.new.self h c.line.ensures.same c.next-line.ensures.text c.next-line.ensures.at in
     omega (arith, h, a)
 
 pub returns-in-err-line : goal.returns-in-err-line
@@ -54,7 +53,6 @@ returns-in-err-line c =
     record {
       answer = q.1 ∙ ap Err q.2 ∙ faulty_answer text room old r _ _ _ p h _ value ∙ ap answer whole;
       table = faulty_table text room old r _ _ _ p h _ value ∙ ap (λ w. filled w old) whole;
-      exact = accepts text (length old);
       below = limits.below;
       few = limits.few;
     }
@@ -73,7 +71,6 @@ returns-then-count-room c =
     record {
       answer = full_answer text room old r _ _ _ p h _ value c.if-count-room.true ∙ ap answer whole;
       table = full_table text room old r _ _ _ p h _ value c.if-count-room.true ∙ ap (λ w. filled w old) whole;
-      exact = accepts text (length old);
       below = limits.below;
       few = limits.few;
     }
@@ -91,7 +88,6 @@ returns c =
     record {
       answer = ended_answer text room old r _ _ _ p h ∙ ap answer whole;
       table = ended_table text room old r _ _ _ p h ∙ ap (λ w. filled w old) whole;
-      exact = accepts text (length old);
       below = limits.below;
       few = limits.few;
     }

@@ -1,5 +1,5 @@
 use Rattle.std.proofs.Common.{◌≡◌, ◌-◌}
-use Rattle.tokens.specs.TextLines.{numbered_line}
+use Rattle.text.specs.TextLines.{numbered_line}
 use Rattle.text.proofs.Seeking.{line_from}
 use Rattle.text.proofs.text_lines.line_text.Given as goal
 

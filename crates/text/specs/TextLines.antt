@@ -1,0 +1,42 @@
+-- The lines of a text of bytes.
+use Rattle.std.specs.Prelude.{ℕ, zero, suc, ◌+◌, Bool, cond, List, [], ◌∷◌, drop, Some, None, Option, ◌==◌}
+use Rattle.std.specs.Borrow.{Bor}
+use Rattle.std.specs.List.{slice_get}
+
+-- Byte 10 ends a line.
+abbrev pub ends_line : ℕ → Bool
+ends_line b = b == 10
+
+-- A byte in front of the first of the lines that follow it, or a line of its own where none does.
+abbrev pub in_front : ℕ → List (List ℕ) → List (List ℕ)
+in_front b [] = (b ∷ []) ∷ []
+in_front b (line ∷ lines) = (b ∷ line) ∷ lines
+
+-- The lines of a text, without their ends. A byte 10 is the end of a line, so none begins after the last one, and an empty text has no line.
+abbrev pub text_lines : List ℕ → List (List ℕ)
+text_lines [] = []
+text_lines (b ∷ bs) = cond (ends_line b) ([] ∷ text_lines bs) (in_front b (text_lines bs))
+
+-- The line of a number, counted from 1.
+abbrev pub numbered_line : List ℕ → ℕ → Option (List ℕ)
+numbered_line text zero = None
+numbered_line text (suc n) = slice_get (text_lines text) n
+
+-- How many bytes the first line has, without its end.
+abbrev pub line_length : List ℕ → ℕ
+line_length [] = 0
+line_length (b ∷ bs) = cond (ends_line b) 0 (suc (line_length bs))
+
+-- How many bytes the first line has, with its end.
+abbrev pub line_size : List ℕ → ℕ
+line_size [] = 0
+line_size (b ∷ bs) = cond (ends_line b) 1 (suc (line_size bs))
+
+-- Where the line after the one at a place begins, or the text ends.
+abbrev pub next_line : List ℕ → ℕ → ℕ
+next_line text at = at + line_size (drop at text)
+
+-- What a part of a text holds, if there is one.
+abbrev pub held : Option (Bor (List ℕ)) → Option (List ℕ)
+held None = None
+held (Some part) = Some part.now

@@ -1,3 +1,0 @@
-pub mod Digits
-pub mod Runs
-pub mod Lexing

@@ -1,8 +1,0 @@
-use Rattle.std.proofs.Common.{◌≡◌, List, [], take, drop, sym, ap}
-use Rattle.std.proofs.lemmas.List.{at_drop_all}
-use Rattle.std.proofs.lemmas.Bool.{leb-true}
-use Rattle.tokens.specs.TextLines.{line_length}
-use Rattle.tokens.proofs.reader.Reader.rest_of_line.Goals as goal
-
-pub returns-then-is-at-end : goal.returns-then-is-at-end
-returns-then-is-at-end c = sym (at_drop_all (λ bs. take (line_length bs) bs) c.args.self.now.text.now c.args.self.now.at (leb-true _ _ (sym c.if-is-at-end.ensures)))

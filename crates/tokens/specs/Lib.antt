@@ -1,5 +1,0 @@
-pub mod Keywords
-pub mod Numerals
-pub mod TextLines
-pub mod Tokens
-pub mod Meanings
