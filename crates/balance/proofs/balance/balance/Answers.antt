@@ -11,7 +11,7 @@ returns-then-needed-table c =
     let lines = c.args.lines.now in
     let table = c.args.table.now in
     let out = balanced_lines_of lines in
-    let n = number_of lines _ _ _ c.requires c.write-rule-needed.ensures in
+    let n = number_of lines _ _ _ c.requires c.write_rule-needed.ensures in
     let h : length table < length out = omega arith in
     record { answer = refused out table h; table = refused_table out table h; written = tt; always = always lines c.requires }
 
@@ -20,16 +20,16 @@ returns c =
     let lines = c.args.lines.now in
     let table = c.args.table.now in
     let out = balanced_lines_of lines in
-    let n = number_of lines _ _ _ c.requires c.write-rule-needed.ensures in
-    let m = number_of lines _ _ _ c.requires c.write-rule.ensures in
+    let n = number_of lines _ _ _ c.requires c.write_rule-needed.ensures in
+    let m = number_of lines _ _ _ c.requires c.write_rule.ensures in
     let h : length out ≤ length table = omega arith in
-    let left : c.write-rule.new.table ≡ overwrite table 0 out = c.write-rule.ensures.entries ∙ ap (overwrite table 0) (writes lines c.requires) in
+    let left : c.write_rule.new.table ≡ overwrite table 0 out = c.write_rule.ensures.entries ∙ ap (overwrite table 0) (writes lines c.requires) in
     record {
       answer = ap Ok m ∙ done out table h;
       table = left ∙ done_table out table h;
       written = record {
-        within = omega (arith, c.write-rule.auto.table);
-        admitted = subst (λ (l : List Line). Admitted l) (sym (ap (λ (k : ℕ). take k c.write-rule.new.table) m ∙ ap (take (length out)) left ∙ done_front out table h)) (always lines c.requires).admitted;
+        within = omega (arith, c.write_rule.auto.table);
+        admitted = subst (λ (l : List Line). Admitted l) (sym (ap (λ (k : ℕ). take k c.write_rule.new.table) m ∙ ap (take (length out)) left ∙ done_front out table h)) (always lines c.requires).admitted;
       };
       always = always lines c.requires;
     }

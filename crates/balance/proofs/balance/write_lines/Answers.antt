@@ -44,7 +44,7 @@ loop-line-preserved c =
       ap (λ o. nesting_fault (i + 1) o rest) c.advance.ensures ∙ nested_rest x rest i os (ap (nesting_fault i os) (sym here) ∙ inv.0),
       (
         front ++ written os x,
-        wrote_more _ _ _ _ _ _ _ _ (omega arith) inv.1.1 c.write-line-next.ensures,
+        wrote_more _ _ _ _ _ _ _ _ (omega arith) inv.1.1 c.write_line-next.ensures,
         append_assoc front (written os x) (pass next rest)
             ∙ ap (λ o. front ++ (written os x ++ pass o rest)) c.advance.ensures
             ∙ ap (λ l. front ++ l) (sym (pass_more os x rest) ∙ ap (pass os) (sym here)) ∙ inv.1.2,

@@ -10,4 +10,4 @@ pub returns : goal.returns
 returns c =
     let cleared = clearing c.args.body (c.args.level + 1 - c.args.body) in
     wrote_same _ _ _ _ _ _ (ap (λ x. doing (op.Not (f 66) x) ∷ cleared) c.mask.ensures)
-    (wrote_more _ _ _ _ _ _ _ _ (omega arith) c.write-all-next.ensures c.write-clears.ensures)
+    (wrote_more _ _ _ _ _ _ _ _ (omega arith) c.write_all-next.ensures c.write_clears.ensures)

@@ -24,7 +24,7 @@ loop-cleared-preserved c =
     let e : clearing body (i - body) ++ line ≡ clearing body (i + 1 - body) =
     ap (λ x. clearing body (i - body) ++ (doing (op.And x x (f 66)) ∷ [])) (c.mask-mask.ensures ∙ ap mask (sym there))
     ∙ sym (ap (clearing body) more ∙ clearing_more body (i - body)) in
-    wrote_same _ _ _ _ _ _ e (wrote_more _ _ _ _ _ _ _ line (omega arith) c.loop-cleared.invariant c.write-all-next.ensures)
+    wrote_same _ _ _ _ _ _ e (wrote_more _ _ _ _ _ _ _ line (omega arith) c.loop-cleared.invariant c.write_all-next.ensures)
 
 pub returns : goal.returns
 returns c =

@@ -7,40 +7,40 @@ use Rattle.balance.specs.Writing.{written, operating, choosing, turning, looping
 use Rattle.balance.proofs.Clears.{length-below}
 use Rattle.balance.proofs.write.write_line.Goals as goal
 
-pub write-break-requires : goal.write-break-requires
-write-break-requires g c =
+pub write_break-requires : goal.write_break-requires
+write_break-requires g c =
     let st = view c.args.stack.now.items c.args.stack.now.depth in
-    (c.len-level.ensures.few, omega (arith, level_within (opens st), length-opens st, c.loop-level.ensures, c.len-level.ensures.count))
+    (c.len-level.ensures.few, omega (arith, level_within (opens st), length-opens st, c.loop_level.ensures, c.len-level.ensures.count))
 
 pub returns-in-Operation : goal.returns-in-Operation
 returns-in-Operation g c =
     let st = view c.args.stack.now.items c.args.stack.now.depth in
     let level = c.len-level.ensures.count ∙ sym (length-opens st) in
-    wrote_same _ _ _ _ _ _ (ap (λ k. operating k c.in-Operation.operation) level ∙ ap (written (opens st)) (sym c.in-Operation.is)) c.write-operation.ensures
+    wrote_same _ _ _ _ _ _ (ap (λ k. operating k c.in-Operation.operation) level ∙ ap (written (opens st)) (sym c.in-Operation.is)) c.write_operation.ensures
 
 pub returns-in-If : goal.returns-in-If
 returns-in-If g c =
     let st = view c.args.stack.now.items c.args.stack.now.depth in
     let level = c.len-level.ensures.count ∙ sym (length-opens st) in
-    wrote_same _ _ _ _ _ _ (ap (λ k. choosing k c.in-If.tested) level ∙ ap (written (opens st)) (sym c.in-If.is)) c.write-if.ensures
+    wrote_same _ _ _ _ _ _ (ap (λ k. choosing k c.in-If.tested) level ∙ ap (written (opens st)) (sym c.in-If.is)) c.write_if.ensures
 
 pub returns-in-Else : goal.returns-in-Else
 returns-in-Else g c =
     let st = view c.args.stack.now.items c.args.stack.now.depth in
-    let level = c.saturating-sub.ensures ∙ ap (λ (k : ℕ). k - 1) (c.len-level.ensures.count ∙ sym (length-opens st)) ∙ sym (length-below (opens st)) in
-    wrote_same _ _ _ _ _ _ (ap turning level ∙ ap (written (opens st)) (sym c.in-Else.is)) c.write-else.ensures
+    let level = c.saturating_sub.ensures ∙ ap (λ (k : ℕ). k - 1) (c.len-level.ensures.count ∙ sym (length-opens st)) ∙ sym (length-below (opens st)) in
+    wrote_same _ _ _ _ _ _ (ap turning level ∙ ap (written (opens st)) (sym c.in-Else.is)) c.write_else.ensures
 
 pub returns-in-Loop : goal.returns-in-Loop
 returns-in-Loop g c =
     let st = view c.args.stack.now.items c.args.stack.now.depth in
     let level = c.len-level.ensures.count ∙ sym (length-opens st) in
-    wrote_same _ _ _ _ _ _ (ap (λ k. looping k c.in-Loop.counter c.in-Loop.rounds) level ∙ ap (written (opens st)) (sym c.in-Loop.is)) c.write-loop.ensures
+    wrote_same _ _ _ _ _ _ (ap (λ k. looping k c.in-Loop.counter c.in-Loop.rounds) level ∙ ap (written (opens st)) (sym c.in-Loop.is)) c.write_loop.ensures
 
 pub returns-in-Break : goal.returns-in-Break
 returns-in-Break g c =
     let st = view c.args.stack.now.items c.args.stack.now.depth in
     let level = c.len-level.ensures.count ∙ sym (length-opens st) in
-    wrote_same _ _ _ _ _ _ (ap (λ k. breaking k c.loop-level.result) level ∙ ap (breaking (length (opens st))) c.loop-level.ensures ∙ ap (written (opens st)) (sym c.in-Break.is)) c.write-break.ensures
+    wrote_same _ _ _ _ _ _ (ap (λ k. breaking k c.loop_level.result) level ∙ ap (breaking (length (opens st))) c.loop_level.ensures ∙ ap (written (opens st)) (sym c.in-Break.is)) c.write_break.ensures
 
 pub returns-in-Turn : goal.returns-in-Turn
 returns-in-Turn g c =

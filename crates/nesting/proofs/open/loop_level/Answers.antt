@@ -5,17 +5,17 @@ use Rattle.nesting.specs.Levels.{loop_level, loops, opens}
 use Rattle.nesting.proofs.Levels.{loop_found, loop_on}
 use Rattle.nesting.proofs.open.loop_level.Goals as goal
 
-pub returns-then-is-loop : goal.returns-then-is-loop
-returns-then-is-loop g c =
+pub returns-then-is_loop : goal.returns-then-is_loop
+returns-then-is_loop g c =
     let st = view c.args.stack.now.items c.args.stack.now.depth in
-    let t = ap loops (sym c.peek.ensures) ∙ sym c.if-is-loop.ensures in
+    let t = ap loops (sym c.peek.ensures) ∙ sym c.if-is_loop.ensures in
     let f = loop_found st c.loop-i.i t in
     omega (arith, f, c.loop-i.invariant, c.len-depth.ensures.count)
 
 pub loop-i-preserved : goal.loop-i-preserved
 loop-i-preserved g c =
     let st = view c.args.stack.now.items c.args.stack.now.depth in
-    loop_on st c.loop-i.i (ap loops (sym c.peek.ensures) ∙ sym c.if-is-loop.ensures) ∙ c.loop-i.invariant
+    loop_on st c.loop-i.i (ap loops (sym c.peek.ensures) ∙ sym c.if-is_loop.ensures) ∙ c.loop-i.invariant
 
 pub returns : goal.returns
 returns g c =
