@@ -1,5 +1,5 @@
 -- The balanced table of a checked rule: its steps, and that it is always admitted.
-use Rattle.std.proofs.Common.{◌≡◌, ℕ, zero, suc, ◌+◌, ◌-◌, ◌*◌, ◌<◌, ◌≤◌, Bool, true, false, ◌&&◌, ltb, List, [], ◌∷◌, length, None, sym, refl, ap, ◌∙◌, subst, add-one, arith}
+use Rattle.std.proofs.Common.{◌≡◌, ℕ, zero, suc, ◌+◌, ◌-◌, ◌*◌, ◌<◌, ◌≤◌, true, ◌&&◌, ltb, List, [], length, None, sym, refl, ap, ◌∙◌, subst, add-one, arith}
 use Rattle.std.proofs.lemmas.Bool.{lt-ltb, ltb-true, and_parts, and_from}
 use Rattle.lines.specs.Operations.{destination, into, under, under3, within}
 use Rattle.lines.specs.declared.field.Field.{Field}
@@ -13,10 +13,10 @@ use Rattle.nesting.specs.Conditions.{unless, first}
 use Rattle.rules.specs.Checks.{IsRule}
 use Rattle.rules.proofs.Costed as rules
 use Rattle.balance.specs.Fields.{f, mask, choice, saved}
-use Rattle.tables.specs.Lines.{Lines, stop, does, turn, flat}
+use Rattle.tables.specs.Lines.{Lines, stop, does}
 use Rattle.balance.specs.Balanced.{clears, balance, balanced, balanced_table}
 use Rattle.tables.specs.Steps.{steps}
-use Rattle.tables.specs.Admission.{Runs, lines_of, nesting_fault, first_fault, Admitted}
+use Rattle.tables.specs.Admission.{Runs, lines_of, nesting_fault, Admitted}
 use Rattle.tables.specs.declared.fault.AdmissionFault.TheVariants as fault
 use Rattle.tables.proofs.Tables.{size, length-flat, lines_flat, faultless}
 

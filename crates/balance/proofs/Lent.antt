@@ -1,17 +1,16 @@
 -- The lent table after balancing.
-use Rattle.std.proofs.Common.{◌≡◌, ℕ, ◌+◌, ◌-◌, ◌^◌, ◌<◌, ◌≤◌, min, ltb, List, [], ◌∷◌, ◌++◌, length, take, drop, Ok, Err, sym, refl, ap, ◌∙◌, subst, arith}
+use Rattle.std.proofs.Common.{◌≡◌, ℕ, ◌<◌, ◌≤◌, ltb, List, [], ◌++◌, length, take, drop, Ok, Err, sym, refl, ap, ◌∙◌, subst, arith}
 use Rattle.std.proofs.lemmas.Bool.{lt-ltb, le-ltb, cond-true, cond-false}
 use Rattle.std.proofs.lemmas.List.{take_at}
 use Rattle.lines.specs.Overwrites.{overwrite, Wrote}
 use Rattle.lines.specs.declared.line.Line.{Line}
 use Rattle.lines.proofs.Overwrites.{overwrite-front}
 use Rattle.rules.specs.Trees.{rule_of}
-use Rattle.rules.specs.Checks.{Checked, IsRule}
+use Rattle.rules.specs.Checks.{Checked}
 use Rattle.rules.proofs.Checked.{is_rule}
 use Rattle.balance.specs.declared.fault.BalanceFault.TheVariants.{TableTooShort}
-use Rattle.balance.specs.Balanced.{balanced, balanced_table}
+use Rattle.balance.specs.Balanced.{balanced}
 use Rattle.tables.specs.Steps.{steps}
-use Rattle.tables.specs.Admission.{lines_of, Admitted}
 use Rattle.balance.specs.Balancing.{balanced_lines_of, balance_answer, table_after, AlwaysAdmitted}
 use Rattle.balance.specs.Writing.{beginning, pass}
 use Rattle.balance.proofs.Passed.{passed}

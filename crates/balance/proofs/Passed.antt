@@ -1,5 +1,5 @@
 -- One pass over a rule's lines writes its balanced lines.
-use Rattle.std.proofs.Common.{◌≡◌, ℕ, zero, suc, ◌+◌, ◌-◌, List, [], ◌∷◌, ◌++◌, length, sym, refl, ap, ◌∙◌, append_assoc, add-one}
+use Rattle.std.proofs.Common.{◌≡◌, ℕ, zero, suc, ◌+◌, ◌-◌, List, [], ◌∷◌, ◌++◌, length, sym, refl, ap, ◌∙◌, add-one}
 use Rattle.lines.specs.declared.line.Line.{Line}
 use Rattle.lines.specs.declared.line.Line.TheVariants as line
 use Rattle.lines.specs.declared.operation.Operation.TheVariants as op
@@ -10,9 +10,9 @@ use Rattle.rules.specs.Checks.{after}
 use Rattle.rules.specs.Trees as rule
 use Rattle.rules.specs.Trees.{Rule}
 use Rattle.balance.specs.Fields.{f, mask, choice, saved}
-use Rattle.tables.specs.Lines.{Lines, stop, does, turn, flat}
+use Rattle.tables.specs.Lines.{Lines, stop, does, flat}
 use Rattle.balance.specs.Balanced.{clears, balance, balanced, balanced_table}
-use Rattle.balance.specs.Writing.{doing, clearing, ending, ending_of, operating, choosing, turning, looping, breaking, written, pass, beginning}
+use Rattle.balance.specs.Writing.{doing, clearing, ending, operating, choosing, turning, looping, breaking, written, pass, beginning}
 
 pub pass_none : (st : List Open) → pass st [] ≡ []
 unfolding pass

@@ -1,7 +1,6 @@
 -- The balanced form of a rule.
 use Rattle.std.specs.Prelude.{ℕ, zero, suc, ◌+◌, ◌-◌, List, []}
 use Rattle.lines.specs.Operations.{destination, into}
-use Rattle.lines.specs.declared.operation.Operation.{Operation}
 use Rattle.lines.specs.declared.operation.Operation.TheVariants as op
 use Rattle.lines.specs.declared.line.Line.{Line}
 use Rattle.rules.specs.Trees as rule

@@ -1,5 +1,5 @@
 -- What is open around a line, kept as a stack.
-use Rattle.std.specs.Prelude.{ℕ, Bool, ltb, List, [], ◌∷◌, reverse, length, take, Some, None, Option}
+use Rattle.std.specs.Prelude.{ℕ, List, [], ◌∷◌, reverse, take, Some, None, Option}
 
 -- What a stack holds, the topmost first: its first `depth` items, the last one on top.
 abbrev pub view : {T : Type 0} → List T → ℕ → List T

@@ -1,5 +1,5 @@
 -- The pass refuses where the conditions do, and as they do.
-use Rattle.std.proofs.Common.{◌≡◌, ℕ, zero, suc, ◌+◌, ◌-◌, ◌<◌, Bool, true, false, cond, ltb, List, [], ◌∷◌, length, Some, None, Ok, Err, Option, Result, sym, refl, ap, ◌∙◌, subst, arith}
+use Rattle.std.proofs.Common.{◌≡◌, ℕ, ◌+◌, ◌-◌, Bool, true, false, cond, ltb, List, [], ◌∷◌, length, Some, None, Ok, Err, Option, Result, sym, refl, ap, ◌∙◌, subst, arith}
 use Rattle.lines.specs.Operations.{within, under}
 use Rattle.lines.specs.declared.line.Line.{Line}
 use Rattle.lines.specs.declared.line.Line.TheVariants as line
@@ -12,7 +12,7 @@ use Rattle.rules.specs.declared.check.Costs.{Costs}
 use Rattle.rules.specs.declared.check.Sums.{Sums}
 use Rattle.nesting.specs.Levels.{opens, loop_level}
 use Rattle.rules.specs.Checks.{else_fault, end_fault, line_fault, after, nesting_fault}
-use Rattle.rules.specs.Passes.{Walk, free, plus, opening, else_of, halving, end_of, closing, breaking, step, finish, pass}
+use Rattle.rules.specs.Passes.{Walk, free, plus, opening, else_of, end_of, step, pass}
 use Rattle.nesting.specs.Conditions.{unless, first, and_then}
 use Rattle.nesting.proofs.Levels.{length-opens}
 

@@ -1,20 +1,20 @@
 -- The check answers what its conditions and the costs of the tree say.
-use Rattle.std.proofs.Common.{◌≡◌, ℕ, zero, suc, ◌+◌, ◌-◌, ◌*◌, ◌<◌, ◌≤◌, min, max, Bool, true, false, cond, ltb, List, [], ◌∷◌, length, IfOk, Some, None, Ok, Err, Option, Result, sym, refl, ap, ◌∙◌, ap₂, inl, inr, mul-le-mul_left, arith}
+use Rattle.std.proofs.Common.{◌≡◌, ℕ, suc, ◌+◌, ◌<◌, ◌≤◌, ltb, List, [], length, IfOk, Some, None, Ok, Err, Option, Result, sym, refl, ap, ◌∙◌, ap₂, inl, inr, mul-le-mul_left, arith}
 use Rattle.std.proofs.lemmas.Bool.{lt-ltb, le-ltb, ltb-true, cond-true, cond-false, cases_lt}
 use Rattle.lines.specs.declared.line.Line.{Line}
 use Rattle.rules.specs.declared.fault.CheckFault.{CheckFault}
 use Rattle.rules.specs.declared.fault.CheckFault.TheVariants as fault
 use Rattle.rules.specs.declared.check.Costs.{Costs}
-use Rattle.rules.specs.Trees.{Rule, done, op, when, loop, break, flat, StandsFor, Fits, rule_of}
+use Rattle.rules.specs.Trees.{Rule, done, op, when, loop, break, flat, Fits, rule_of}
 use Rattle.rules.specs.Costs.{plain_cost, block_cost, balanced_cost}
 use Rattle.rules.specs.Checks.{nesting_fault, first_fault, Checked, IsRule, costs_of, checked}
 use Rattle.nesting.specs.Conditions.{unless, first, or_fault}
 use Rattle.nesting.specs.Capped.{capped}
-use Rattle.rules.specs.Passes.{Walk, start, plus, finish, pass}
+use Rattle.rules.specs.Passes.{start, plus, finish, pass}
 use Rattle.nesting.proofs.Firsts.{none_both, none_holds}
 use Rattle.rules.proofs.Parsed.{stands, rule_flat}
 use Rattle.rules.proofs.Agreed.{refuses}
-use Rattle.rules.proofs.Costed.{Low, size, length-flat, costed}
+use Rattle.rules.proofs.Costed.{size, length-flat, costed}
 
 -- a plain run is never longer than the balanced one
 pub plain_below : (r : Rule) (k j : ℕ) → plain_cost r ≤ block_cost r k j

@@ -1,14 +1,12 @@
 -- The pass over a rule's lines sums up its costs.
-use Rattle.std.proofs.Common.{◌≡◌, ℕ, zero, suc, ◌+◌, ◌-◌, ◌*◌, ◌<◌, ◌≤◌, min, max, Bool, true, false, cond, ltb, List, [], ◌∷◌, length, Ok, Err, sym, refl, ap, ◌∙◌, subst, ap₂, inl, inr, mul-le-mul_left, arith}
-use Rattle.std.proofs.lemmas.Bool.{lt-ltb, cond-true, cases_lt}
+use Rattle.std.proofs.Common.{◌≡◌, ℕ, suc, ◌+◌, ◌-◌, ◌*◌, ◌<◌, ◌≤◌, max, ltb, List, ◌∷◌, length, Ok, sym, refl, ap, ◌∙◌, subst, ap₂, arith}
+use Rattle.std.proofs.lemmas.Bool.{lt-ltb, cond-true}
 use Rattle.lines.specs.Operations.{within, under}
 use Rattle.lines.specs.declared.line.Line.{Line}
 use Rattle.lines.specs.declared.line.Line.TheVariants as line
 use Rattle.nesting.specs.declared.open.Open.{Open}
 use Rattle.nesting.specs.declared.open.Open.TheVariants as open_is
 use Rattle.nesting.specs.declared.open.Frame.{Frame}
-use Rattle.rules.specs.declared.fault.CheckFault.{CheckFault}
-use Rattle.rules.specs.declared.fault.CheckFault.TheVariants as fault
 use Rattle.rules.specs.declared.check.Costs.{Costs}
 use Rattle.rules.specs.declared.check.Sums.{Sums}
 use Rattle.nesting.specs.Levels.{opens, loop_level}

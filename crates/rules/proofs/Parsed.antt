@@ -1,19 +1,16 @@
 -- A table without a nesting fault is the table of a tree, and a table is the table of one tree at most.
-use Rattle.std.proofs.Common.{◌≡◌, ℕ, zero, suc, ◌+◌, ◌<◌, Bool, true, false, cond, ltb, List, [], ◌∷◌, length, Some, None, Option, sym, refl, ap, ◌∙◌, arith}
+use Rattle.std.proofs.Common.{◌≡◌, ℕ, suc, ◌+◌, ◌<◌, true, ltb, List, [], ◌∷◌, length, None, sym, refl, ap, ◌∙◌}
 use Rattle.std.proofs.lemmas.Bool.{ltb-true}
 use Rattle.lines.specs.Operations.{within, under}
 use Rattle.lines.specs.declared.field.Field.{Field}
-use Rattle.lines.specs.declared.operation.Operation.{Operation}
 use Rattle.lines.specs.declared.line.Line.{Line}
 use Rattle.lines.specs.declared.line.Line.TheVariants as line
 use Rattle.nesting.specs.declared.open.Open.{Open}
 use Rattle.nesting.specs.declared.open.Open.TheVariants as open_is
-use Rattle.rules.specs.declared.fault.CheckFault.{CheckFault}
 use Rattle.rules.specs.declared.fault.CheckFault.TheVariants as fault
-use Rattle.nesting.specs.Nesting.{below}
 use Rattle.nesting.specs.Levels.{loop_level}
 use Rattle.rules.specs.Trees.{Rule, done, op, when, loop, break, flat, Fits, blocks, rule_of}
-use Rattle.nesting.specs.Blocks.{Blocks, last, before, front, behind, replace}
+use Rattle.nesting.specs.Blocks.{before, front, behind, replace}
 use Rattle.nesting.proofs.Blocks.{front-replace, replace-replace, replace-front}
 use Rattle.rules.specs.Checks.{line_fault, after, nesting_fault}
 use Rattle.nesting.specs.Conditions.{unless, first}

@@ -1,10 +1,9 @@
 -- The steps of the check's pass.
-use Rattle.std.proofs.Common.{◌≡◌, ℕ, suc, ◌+◌, ◌-◌, ◌<◌, ◌≤◌, Bool, true, false, cond, ltb, List, [], ◌∷◌, length, get_or, drop, Some, None, Ok, Err, sym, refl, ap, ◌∙◌, arith}
+use Rattle.std.proofs.Common.{◌≡◌, ℕ, ◌+◌, ◌<◌, ◌≤◌, Bool, true, cond, ltb, List, [], ◌∷◌, length, get_or, drop, Some, Ok, Err, sym, ap, ◌∙◌, arith}
 use Rattle.std.proofs.lemmas.List.{at_drop_more, at_drop_all}
 use Rattle.lines.specs.declared.line.Line.{Line}
 use Rattle.rules.specs.declared.fault.CheckFault.{CheckFault}
 use Rattle.std.proofs.lemmas.Bool.{lt-ltb}
-use Rattle.nesting.specs.declared.open.Open.{Open}
 use Rattle.nesting.specs.declared.open.Open.TheVariants as open_is
 use Rattle.nesting.specs.declared.open.Frame.{Frame}
 use Rattle.rules.specs.declared.check.Costs.{Costs}

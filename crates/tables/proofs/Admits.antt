@@ -1,5 +1,5 @@
 -- Admission answers what its conditions and the steps of the lines say.
-use Rattle.std.proofs.Common.{◌≡◌, ℕ, zero, suc, ◌+◌, ◌-◌, ◌*◌, ◌<◌, ◌≤◌, min, Bool, true, false, cond, ltb, List, [], ◌∷◌, length, IfOk, Some, None, Ok, Err, Option, Result, sym, refl, ap, ◌∙◌, subst, inl, inr, add-one, arith}
+use Rattle.std.proofs.Common.{◌≡◌, ℕ, suc, ◌+◌, ◌-◌, ◌*◌, ◌<◌, ◌≤◌, Bool, true, false, cond, ltb, List, [], ◌∷◌, length, IfOk, Some, None, Ok, Err, Option, Result, sym, refl, ap, ◌∙◌, subst, inl, inr, add-one, arith}
 use Rattle.std.proofs.lemmas.Bool.{lt-ltb, le-ltb, ltb-true, cond-true, cond-false, cases_lt}
 use Rattle.lines.specs.Operations.{within, under}
 use Rattle.lines.specs.declared.line.Line.{Line}
@@ -14,7 +14,7 @@ use Rattle.tables.specs.declared.fault.AdmissionFault.TheVariants as fault
 use Rattle.tables.specs.Lines.{Lines, stop, does, turn, flat}
 use Rattle.tables.specs.Steps.{steps}
 use Rattle.tables.specs.Admission.{lines_of, line_fault, after, nesting_fault, first_fault, Admitted, Runs, IsTable, admission}
-use Rattle.tables.specs.Counting.{Count, turn_steps, closing, opening, step, finish, count}
+use Rattle.tables.specs.Counting.{Count, turn_steps, step, finish, count}
 use Rattle.tables.proofs.Tables.{stands, lines_flat, size, length-flat}
 
 -- a step refuses with the fault, or leaves d turns open

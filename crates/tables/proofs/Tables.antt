@@ -1,11 +1,11 @@
 -- A table without a nesting fault is the table of balanced lines, and of no others.
-use Rattle.std.proofs.Common.{◌≡◌, ℕ, zero, suc, ◌+◌, ◌-◌, ◌<◌, Bool, true, false, cond, ltb, List, [], ◌∷◌, length, Some, None, Option, sym, refl, ap, ◌∙◌, subst, add-one, arith}
+use Rattle.std.proofs.Common.{◌≡◌, ℕ, zero, suc, ◌+◌, ◌-◌, ◌<◌, Bool, true, false, ltb, List, [], ◌∷◌, length, None, Option, sym, refl, ap, ◌∙◌, subst, add-one, arith}
 use Rattle.std.proofs.lemmas.Bool.{ltb-true, lt-ltb}
 use Rattle.lines.specs.Operations.{within, under}
 use Rattle.lines.specs.declared.field.Field.{Field}
 use Rattle.lines.specs.declared.line.Line.{Line}
 use Rattle.lines.specs.declared.line.Line.TheVariants as line
-use Rattle.nesting.specs.Blocks.{Blocks, last, before, front, behind, replace}
+use Rattle.nesting.specs.Blocks.{before, front, behind, replace}
 use Rattle.nesting.specs.Conditions.{unless, first}
 use Rattle.nesting.proofs.Blocks.{front-replace, replace-replace, replace-front}
 use Rattle.nesting.proofs.Firsts.{none_both, none_holds, never}

@@ -1,6 +1,4 @@
-use Rattle.std.proofs.Common.{◌≡◌, List, ◌∷◌, length, sym, ap, ◌∙◌, subst, arith}
-use Rattle.lines.specs.declared.line.Line.{Line}
-use Rattle.nesting.specs.declared.open.Open.{Open}
+use Rattle.std.proofs.Common.{◌∷◌, length, sym, ap, ◌∙◌, subst, arith}
 use Rattle.nesting.specs.declared.open.Open.TheVariants as open_is
 use Rattle.nesting.specs.Nesting.{view}
 use Rattle.nesting.specs.Levels.{opens}

@@ -1,5 +1,4 @@
-use Rattle.std.proofs.Common.{◌+◌, ◌-◌, List, ◌∷◌, ap, arith}
-use Rattle.lines.specs.declared.line.Line.{Line}
+use Rattle.std.proofs.Common.{◌+◌, ◌-◌, ◌∷◌, ap, arith}
 use Rattle.lines.specs.declared.operation.Operation.TheVariants as op
 use Rattle.lines.proofs.Overwrites.{wrote_more, wrote_same}
 use Rattle.balance.specs.Fields.{f}

@@ -1,4 +1,4 @@
-use Rattle.std.proofs.Common.{◌≡◌, ℕ, ◌+◌, ◌≤◌, List, length, get_or, drop, set, sym, refl, ap, ◌∙◌, add-zero, arith}
+use Rattle.std.proofs.Common.{◌≡◌, ◌+◌, drop, set, sym, ap, ◌∙◌, add-zero, arith}
 use Rattle.lines.specs.Overwrites.{overwrite}
 use Rattle.lines.proofs.Overwrites.{overwrite_more, overwrite_all, overwrite_past}
 use Rattle.lines.proofs.write.write_all.Goals as goal

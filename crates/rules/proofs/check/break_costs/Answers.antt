@@ -1,6 +1,6 @@
-use Rattle.std.proofs.Common.{◌≤◌, length, arith}
+use Rattle.std.proofs.Common.{arith}
 use Rattle.nesting.specs.Nesting.{view}
-use Rattle.nesting.specs.Levels.{opens, loop_level}
+use Rattle.nesting.specs.Levels.{opens}
 use Rattle.nesting.proofs.Views.{length-view}
 use Rattle.nesting.proofs.Levels.{level_within, length-opens}
 use Rattle.rules.proofs.check.break_costs.Goals as goal

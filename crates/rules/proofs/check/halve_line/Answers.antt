@@ -1,5 +1,4 @@
 use Rattle.std.proofs.Common.{refl, arith}
-use Rattle.nesting.specs.Nesting.{view}
 use Rattle.nesting.proofs.Views.{length-view}
 use Rattle.rules.proofs.Steps.{halved}
 use Rattle.rules.proofs.check.halve_line.Goals as goal
