@@ -8,17 +8,17 @@ pub returns-then-needed-buffer : goal.returns-then-needed-buffer
 returns-then-needed-buffer c =
     let table = c.args.table.now in
     let buffer = c.args.buffer.now in
-    let h : length buffer < length (listing table) = omega (arith, c.write-lines-needed.ensures.onward) in
+    let h : length buffer < length (listing table) = omega (arith, c.write_lines-needed.ensures.onward) in
     record { answer = short_answer table buffer h; bytes = short_buffer table buffer h; roundtrip = reads_back table }
 
 pub returns : goal.returns
 returns c =
     let table = c.args.table.now in
     let buffer = c.args.buffer.now in
-    let h : length (listing table) ≤ length buffer = omega (arith, c.write-lines-needed.ensures.onward) in
-    let n : c.write-lines.result ≡ length (listing table) = omega (arith, c.write-lines.ensures.onward) in
+    let h : length (listing table) ≤ length buffer = omega (arith, c.write_lines-needed.ensures.onward) in
+    let n : c.write_lines.result ≡ length (listing table) = omega (arith, c.write_lines.ensures.onward) in
     record {
       answer = ap Ok n ∙ fit_answer table buffer h;
-      bytes = c.write-lines.ensures.entries ∙ fit_buffer table buffer h;
+      bytes = c.write_lines.ensures.entries ∙ fit_buffer table buffer h;
       roundtrip = reads_back table;
     }

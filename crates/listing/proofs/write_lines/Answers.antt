@@ -9,7 +9,7 @@ loop-line-init c = wrote_none _ _ (omega arith)
 pub loop-line-preserved : goal.loop-line-preserved
 loop-line-preserved c =
     wrote_same _ _ _ _ _ _ (sym (listing_more c.args.table.now c.loop-line.line-index c.loop-line-test.true))
-    (wrote_more _ _ _ _ _ _ _ _ (omega arith) c.loop-line.invariant c.write-line-next.ensures)
+    (wrote_more _ _ _ _ _ _ _ _ (omega arith) c.loop-line.invariant c.write_line-next.ensures)
 
 pub returns : goal.returns
 returns c = wrote_same _ _ _ _ _ _ (listing_all c.args.table.now c.loop-line.line-index c.loop-line-test.false) c.loop-line.invariant

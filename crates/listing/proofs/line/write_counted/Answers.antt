@@ -4,6 +4,6 @@ use Rattle.listing.proofs.line.write_counted.Goals as goal
 
 pub returns : goal.returns
 returns c =
-    let field = wrote_more _ _ _ _ _ _ _ _ (omega arith) c.write-all-field-at.ensures c.write-field-space-at.ensures in
-    let space = wrote_more _ _ _ _ _ _ _ _ (omega arith) field c.write-all-number-at.ensures in
-    wrote_same _ _ _ _ _ _ (simp (append_assoc, append-nil)) (wrote_more _ _ _ _ _ _ _ _ (omega arith) space c.write-number.ensures)
+    let field = wrote_more _ _ _ _ _ _ _ _ (omega arith) c.write_all-field_at.ensures c.write_field-space_at.ensures in
+    let space = wrote_more _ _ _ _ _ _ _ _ (omega arith) field c.write_all-number_at.ensures in
+    wrote_same _ _ _ _ _ _ (simp (append_assoc, append-nil)) (wrote_more _ _ _ _ _ _ _ _ (omega arith) space c.write_number.ensures)

@@ -4,21 +4,21 @@ use Rattle.text.specs.Numerals.{field_numbered}
 use Rattle.text.proofs.Digits.{field_rest}
 use Rattle.text.proofs.numeral.field_of.Goals as goal
 
-pub returns-in-err-n : goal.returns-in-err-n
-returns-in-err-n c =
+pub returns-in_err-n : goal.returns-in_err-n
+returns-in_err-n c =
     let e = field_rest c.args.part.now (omega arith) c.if-part-ne102.false in
-    c.from-residual.ensures ∙ ap field_numbered c.in-err-n.ensures ∙ sym e
+    c.from_residual.ensures ∙ ap field_numbered c.in_err-n.ensures ∙ sym e
 
-pub returns-then-n-le-LAST-FIELD : goal.returns-then-n-le-LAST-FIELD
-returns-then-n-le-LAST-FIELD c =
+pub returns-then-n-le-LAST_FIELD : goal.returns-then-n-le-LAST_FIELD
+returns-then-n-le-LAST_FIELD c =
     let e = field_rest c.args.part.now (omega arith) c.if-part-ne102.false in
-    let t = le-leb c.in-ok-n.n 95 (omega arith) in
-    let f : field_numbered (Some c.in-ok-n.n) ≡ Some (record { 0 = c.in-ok-n.n }) = rw t in
-    sym f ∙ ap field_numbered c.in-ok-n.ensures ∙ sym e
+    let t = le-leb c.in_ok-n.n 95 (omega arith) in
+    let f : field_numbered (Some c.in_ok-n.n) ≡ Some (record { 0 = c.in_ok-n.n }) = rw t in
+    sym f ∙ ap field_numbered c.in_ok-n.ensures ∙ sym e
 
-pub returns-else-n-le-LAST-FIELD : goal.returns-else-n-le-LAST-FIELD
-returns-else-n-le-LAST-FIELD c =
+pub returns-else-n-le-LAST_FIELD : goal.returns-else-n-le-LAST_FIELD
+returns-else-n-le-LAST_FIELD c =
     let e = field_rest c.args.part.now (omega arith) c.if-part-ne102.false in
-    let t = lt-leb c.in-ok-n.n 95 (omega arith) in
-    let f : field_numbered (Some c.in-ok-n.n) ≡ None = rw t in
-    sym f ∙ ap field_numbered c.in-ok-n.ensures ∙ sym e
+    let t = lt-leb c.in_ok-n.n 95 (omega arith) in
+    let f : field_numbered (Some c.in_ok-n.n) ≡ None = rw t in
+    sym f ∙ ap field_numbered c.in_ok-n.ensures ∙ sym e

@@ -4,12 +4,12 @@ use Rattle.text.proofs.scan.past_solids.Goals as goal
 
 pub loop-i-preserved : goal.loop-i-preserved
 loop-i-preserved c =
-    let e = solids_more c.args.text.now c.loop-i.i (omega arith) (sym c.if-is-solid.ensures) in
+    let e = solids_more c.args.text.now c.loop-i.i (omega arith) (sym c.if-is_solid.ensures) in
     (omega arith, λ _. omega arith, omega (arith, e))
 
-pub returns-else-is-solid : goal.returns-else-is-solid
-returns-else-is-solid c =
-    let e = solids_stop c.args.text.now c.loop-i.i (omega arith) (sym c.if-is-solid.ensures) in
+pub returns-else-is_solid : goal.returns-else-is_solid
+returns-else-is_solid c =
+    let e = solids_stop c.args.text.now c.loop-i.i (omega arith) (sym c.if-is_solid.ensures) in
     record { value = omega (arith, e); within = λ h. c.loop-i.invariant.1 h }
 
 pub returns-after-loop-i : goal.returns-after-loop-i

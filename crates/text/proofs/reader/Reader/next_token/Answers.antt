@@ -7,8 +7,8 @@ pub returns-then-start-end : goal.returns-then-start-end
 returns-then-start-end c =
     let text = c.args.self.now.text.now in
     let at = c.args.self.now.at in
-    let s = c.past-blanks-start.ensures.value in
-    let e = c.past-solids-end.ensures.value in
+    let s = c.past_blanks-start.ensures.value in
+    let e = c.past_solids-end.ensures.value in
     record {
       text = refl;
       at = next_place text at _ _ s e;
@@ -20,8 +20,8 @@ pub returns-else-start-end : goal.returns-else-start-end
 returns-else-start-end c =
     let text = c.args.self.now.text.now in
     let at = c.args.self.now.at in
-    let s = c.past-blanks-start.ensures.value in
-    let e = c.past-solids-end.ensures.value in
+    let s = c.past_blanks-start.ensures.value in
+    let e = c.past_solids-end.ensures.value in
     record {
       text = refl;
       at = next_place text at _ _ s e;

@@ -4,5 +4,5 @@ use Rattle.std.proofs.lemmas.Bool.{leb-true}
 use Rattle.text.specs.TextLines.{line_length}
 use Rattle.text.proofs.reader.Reader.rest_of_line.Goals as goal
 
-pub returns-then-is-at-end : goal.returns-then-is-at-end
-returns-then-is-at-end c = sym (at_drop_all (λ bs. take (line_length bs) bs) c.args.self.now.text.now c.args.self.now.at (leb-true _ _ (sym c.if-is-at-end.ensures)))
+pub returns-then-is_at_end : goal.returns-then-is_at_end
+returns-then-is_at_end c = sym (at_drop_all (λ bs. take (line_length bs) bs) c.args.self.now.text.now c.args.self.now.at (leb-true _ _ (sym c.if-is_at_end.ensures)))
