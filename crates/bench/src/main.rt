@@ -1,5 +1,7 @@
 //! How long preparing takes for texts and rules of growing size. `bench --measure` prints times; without it the sizes alone are printed, which
 //! are the same in every run.
+#![tactic(auto)]
+
 use lines::line::Line;
 use listing::list;
 use preparation::prepare::prepare;

@@ -1,4 +1,6 @@
 //! Tables of lines written out as text: a text line for each line, its words with single spaces between them.
+#![tactic(auto)]
+
 ghost use Rattle.std.specs.Prelude.{◌≡◌, ◌≤◌, length};
 ghost use Rattle.lines.specs.Overwrites.{Wrote};
 ghost use Rattle.lines.specs.Sizes.{TableBelow};

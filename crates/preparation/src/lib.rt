@@ -1,4 +1,5 @@
 //! From a rule text to a balanced table in one call.
+#![tactic(auto)]
 
 pub mod explain;
 pub mod fault;

@@ -1,4 +1,5 @@
 //! Tests of checking, balancing, admission and preparing, in a crate of their own so that what they test is proved once.
+#![tactic(auto)]
 
 #[cfg(test)]
 mod admissions;

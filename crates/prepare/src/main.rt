@@ -1,4 +1,6 @@
 //! `prepare`: reads a rule from standard input, and prints its balanced lines and their steps, or why it is refused.
+#![tactic(auto)]
+
 use anyhow::anyhow;
 use lines::line::Line;
 use listing::list;
@@ -7,6 +9,7 @@ use preparation::fault::{PrepareFault, Stage};
 use preparation::prepare::prepare;
 use std::io;
 use std::io::{Read, Write};
+use std::process::ExitCode;
 use text::table::MAX_TEXT;
 use text::text_lines::line_text;
 
@@ -62,22 +65,24 @@ fn print_refusal(rt: &HostRuntime, fault: &PrepareFault, text: &[u8]) -> anyhow:
     Ok(())
 }
 
-fn run(rt: &HostRuntime) -> anyhow::Result<()> {
+/// Prepares the rule, and answers the status to end with.
+fn run(rt: &HostRuntime) -> anyhow::Result<ExitCode> {
     let text = read_text(rt)?;
     let mut rule = vec![in rt.alloc(); Line::End; TABLE_LINES]?;
     let mut table = vec![in rt.alloc(); Line::End; TABLE_LINES]?;
     match prepare(&text, &mut rule, &mut table) {
         Ok(prepared) => {
             let lines = prepared.balanced_lines;
-            print_table(rt, &table[0..lines], prepared.costs.balanced)
+            print_table(rt, &table[0..lines], prepared.costs.balanced)?;
+            Ok(ExitCode::SUCCESS)
         }
         Err(fault) => {
             print_refusal(rt, &fault, &text)?;
-            Err(anyhow!("refused"))
+            Ok(ExitCode::FAILURE)
         }
     }
 }
 
-fn main(rt: HostRuntime) -> anyhow::Result<()> {
+fn main(rt: HostRuntime) -> anyhow::Result<ExitCode> {
     run(&rt)
 }

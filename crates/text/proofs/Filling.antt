@@ -1,5 +1,5 @@
 -- A table filled line by line.
-use Rattle.std.proofs.Common.{◌≡◌, ℕ, zero, suc, ◌+◌, ◌-◌, ◌<◌, ◌≤◌, min, Bool, true, false, cond, eqb, leb, List, [], ◌∷◌, ◌++◌, length, take, drop, set, Some, None, Ok, Err, Option, Result, sym, refl, ap, ◌∙◌, arith}
+use Rattle.std.proofs.Common.{◌≡◌, ℕ, ◌+◌, ◌-◌, ◌<◌, ◌≤◌, min, true, false, cond, eqb, leb, List, [], ◌∷◌, ◌++◌, length, take, drop, set, Some, None, Ok, Err, Option, Result, sym, refl, ap, ◌∙◌, arith}
 use Rattle.std.proofs.lemmas.List.{append-nil, append_assoc, take-append-drop, length-take-le, length-set, take_more_set, drop-set-lt, drop-drop, length-drop, at_drop_all}
 use Rattle.std.proofs.lemmas.Bool.{eq-eqb, ne_eqb, leb-true, leb-false, le-ltb}
 use Rattle.lines.specs.declared.line.Line.{Line}
@@ -7,12 +7,12 @@ use Rattle.text.specs.Meanings.{meanings}
 use Rattle.text.specs.Operands.{line_read, left, SameLine}
 use Rattle.text.specs.Reading.{Reading, refused, preceded, entered, read_lines, reading, answered, answer, filled}
 use Rattle.text.specs.TextLines.{text_lines, next_line}
-use Rattle.text.specs.Tokens.{tokens, tokens_at}
+use Rattle.text.specs.Tokens.{tokens_at}
 use Rattle.text.specs.declared.fault.ReadFault.{ReadFault}
 use Rattle.text.specs.declared.fault.ReadFault.TheVariants as fault
 use Rattle.text.specs.declared.reader.Reader.{Reader}
 use Rattle.text.proofs.Runs.{size_some}
-use Rattle.text.proofs.LineByLine.{line_at, lines_at, meanings_at}
+use Rattle.text.proofs.LineByLine.{lines_at, meanings_at}
 
 -- Lines before what reading gives.
 abbrev pub after : List Line → Reading → Reading

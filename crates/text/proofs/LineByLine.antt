@@ -1,8 +1,8 @@
 -- The lines of a text, one by one.
-use Rattle.std.proofs.Common.{◌≡◌, ℕ, zero, suc, ◌+◌, ◌-◌, ◌<◌, ◌≤◌, Bool, true, false, cond, not, ◌&&◌, ◌||◌, List, [], ◌∷◌, map, length, take, drop, sym, refl, ap, ◌∙◌, ⊎_elim, arith}
+use Rattle.std.proofs.Common.{◌≡◌, ℕ, suc, ◌+◌, ◌<◌, Bool, true, false, cond, List, [], ◌∷◌, map, length, take, drop, sym, refl, ap, ◌∙◌, ⊎_elim, arith}
 use Rattle.std.proofs.lemmas.List.{drop-drop, length-drop}
 use Rattle.std.proofs.lemmas.Bool.{cases_Bool, or_left, and_right, not_from_true}
-use Rattle.text.specs.Meanings.{Meaning, meaning, meanings}
+use Rattle.text.specs.Meanings.{meaning, meanings}
 use Rattle.text.specs.TextLines.{ends_line, in_front, text_lines, line_length, line_size, next_line}
 use Rattle.text.specs.Tokens.{Piece, is_blank, ends_tokens, is_solid, solid_first, lengthened, tokens, tokens_at, some_token}
 

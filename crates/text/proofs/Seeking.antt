@@ -1,9 +1,9 @@
 -- A line of a text by its number, and by its place among those with tokens.
-use Rattle.std.proofs.Common.{◌≡◌, ℕ, zero, suc, ◌+◌, ◌-◌, ◌<◌, ◌≤◌, Bool, true, false, cond, ltb, leb, List, [], ◌∷◌, length, take, drop, is_some, Some, None, Option, sym, refl, ap, ◌∙◌, ⊎_elim, arith}
+use Rattle.std.proofs.Common.{◌≡◌, ℕ, zero, suc, ◌+◌, ◌-◌, ◌<◌, ◌≤◌, Bool, true, false, cond, ltb, leb, List, [], ◌∷◌, length, drop, is_some, Some, None, Option, sym, refl, ap, ◌∙◌, ⊎_elim, arith}
 use Rattle.std.proofs.lemmas.List.{at_drop_all, length-drop}
-use Rattle.std.proofs.lemmas.Bool.{cases_lt, leb-true, leb-false, ltb-true, ltb-false}
+use Rattle.std.proofs.lemmas.Bool.{cases_lt, leb-true, leb-false, ltb-false}
 use Rattle.std.specs.List.{slice_get}
-use Rattle.text.specs.Meanings.{Seen, viewed, first_seen}
+use Rattle.text.specs.Meanings.{viewed, first_seen}
 use Rattle.text.specs.Operands.{SameLine}
 use Rattle.text.specs.Reading.{token_lines, written_by}
 use Rattle.text.specs.TextLines.{text_lines, numbered_line, next_line}

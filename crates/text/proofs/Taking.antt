@@ -5,7 +5,7 @@ use Rattle.lines.specs.declared.line.Line.{Line}
 use Rattle.text.specs.declared.fault.ReadFault.{ReadFault}
 use Rattle.text.specs.declared.fault.ReadFault.TheVariants as fault
 use Rattle.text.specs.declared.keyword.Keyword.{Keyword}
-use Rattle.text.specs.Meanings.{Meaning, as_word, meaning, meanings, Seen, seen, viewed, meant, first_seen}
+use Rattle.text.specs.Meanings.{Meaning, as_word, meanings, Seen, seen, viewed, first_seen}
 use Rattle.text.specs.Operands.{and_then, line_of, line_read, left, SameLine}
 use Rattle.text.specs.TextLines.{next_line}
 use Rattle.text.specs.Tokens.{Piece, rest_of, tokens_at, after_token}

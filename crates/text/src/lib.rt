@@ -1,4 +1,5 @@
 //! From the bytes of a rule text to a table of lines.
+#![tactic(auto)]
 
 pub mod fault;
 pub mod keyword;

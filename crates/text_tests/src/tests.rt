@@ -144,12 +144,15 @@ fn goes_over_tokens(rt: HostRuntime) {
 fn gives_numbered_lines(rt: HostRuntime) -> Result<(), Fail> {
     let text = b"one\n\nthree\n";
     assert_eq!(rt; line_text(text, 0), None);
-    assert_eq!(rt; line_text(text, 1).ok_or("no line")?, b"one");
-    assert_eq!(rt; line_text(text, 2).ok_or("no line")?, b"");
-    assert_eq!(rt; line_text(text, 3).ok_or("no line")?, b"three");
+    assert_eq!(rt; line_text(text, 1).ok_or("no line")?, b"one".as_slice());
+    assert_eq!(rt; line_text(text, 2).ok_or("no line")?, b"".as_slice());
+    assert_eq!(rt; line_text(text, 3).ok_or("no line")?, b"three".as_slice());
     assert_eq!(rt; line_text(text, 4), None);
     assert_eq!(rt; line_text(b"", 1), None);
-    assert_eq!(rt; line_text(b"\nlast", 2).ok_or("no line")?, b"last");
+    assert_eq!(rt;
+        line_text(b"\nlast", 2).ok_or("no line")?,
+        b"last".as_slice()
+    );
     assert_eq!(rt; line_text(b"\n", usize::MAX), None);
     Ok(())
 }

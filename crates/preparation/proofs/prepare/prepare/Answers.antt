@@ -1,9 +1,9 @@
-use Rattle.std.proofs.Common.{◌≡◌, List, length, take, sym, ap, ◌∙◌, subst, arith}
+use Rattle.std.proofs.Common.{List, length, sym, ◌∙◌, subst}
 use Rattle.std.proofs.lemmas.Result.{err_from_is_err_and}
 use Rattle.lines.specs.declared.line.Line.{Line}
 use Rattle.rules.specs.Checks.{Checked}
-use Rattle.text.specs.Reading.{Reading, reading}
-use Rattle.preparation.proofs.Fronts.{read_count, read_within, read_front, read_part, refused-after, done_after, second_after}
+use Rattle.text.specs.Reading.{reading}
+use Rattle.preparation.proofs.Fronts.{read_within, read_front, read_part, refused-after, done_after, second_after}
 use Rattle.preparation.proofs.prepare.prepare.Goals as goal
 
 pub slice_bounds-check_and_balance-end : goal.slice_bounds-check_and_balance-end

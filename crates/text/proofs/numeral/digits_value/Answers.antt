@@ -1,4 +1,4 @@
-use Rattle.std.proofs.Common.{◌≡◌, sym, refl, ◌∙◌, arith}
+use Rattle.std.proofs.Common.{sym, refl, ◌∙◌, arith}
 use Rattle.std.proofs.lemmas.List.{at_drop_all}
 use Rattle.text.proofs.Digits.{value_from, value_from_start, value_other, value_large, value_more}
 use Rattle.text.proofs.numeral.digits_value.Goals as goal

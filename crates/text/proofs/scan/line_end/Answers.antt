@@ -1,4 +1,4 @@
-use Rattle.std.proofs.Common.{sym, arith, eq-eqb, ne_eqb}
+use Rattle.std.proofs.Common.{arith, eq-eqb, ne_eqb}
 use Rattle.text.proofs.Runs.{line_more, line_stop, line_all}
 use Rattle.text.proofs.scan.line_end.Goals as goal
 

@@ -1,4 +1,4 @@
-use Rattle.std.proofs.Common.{sym, arith, eq-eqb, ne_eqb}
+use Rattle.std.proofs.Common.{arith, eq-eqb, ne_eqb}
 use Rattle.text.proofs.Runs.{blanks_more, blanks_stop, blanks_all}
 use Rattle.text.proofs.scan.past_blanks.Goals as goal
 

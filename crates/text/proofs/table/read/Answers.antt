@@ -1,7 +1,7 @@
-use Rattle.std.proofs.Common.{◌≡◌, length, Some, None, Ok, Err, Option, sym, refl, ap, ◌∙◌, arith}
+use Rattle.std.proofs.Common.{length, Ok, Err, sym, ap, ◌∙◌, arith}
 use Rattle.std.proofs.lemmas.Result.{err_from_is_err_and}
 use Rattle.text.specs.Reading.{answer, filled}
-use Rattle.text.proofs.Filling.{Progress, progress_start, progress_at, progress_none, progress_some, open_at, ended_at, reading_is, ended_answer, ended_table, faulty_answer, faulty_table, full_answer, full_table, advances}
+use Rattle.text.proofs.Filling.{progress_start, progress_at, progress_none, progress_some, open_at, ended_at, reading_is, ended_answer, ended_table, faulty_answer, faulty_table, full_answer, full_table, advances}
 use Rattle.text.proofs.Limits.{limited}
 use Rattle.text.proofs.table.read.Goals as goal
 use Rattle.text.proofs.table.read.Goals.{in-Some+else-count-room, in_default}

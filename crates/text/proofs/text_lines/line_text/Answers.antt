@@ -1,4 +1,4 @@
-use Rattle.std.proofs.Common.{◌≡◌, Some, sym, ap, ◌∙◌, arith}
+use Rattle.std.proofs.Common.{Some, ap, ◌∙◌, arith}
 use Rattle.text.proofs.Seeking.{line_passed, line_past, line_none, line_here}
 use Rattle.text.proofs.text_lines.line_text.Goals as goal
 

@@ -1,4 +1,4 @@
-use Rattle.std.proofs.Common.{◌≡◌, Err, sym, ap, ◌∙◌}
+use Rattle.std.proofs.Common.{Err, sym, ap, ◌∙◌}
 use Rattle.std.proofs.lemmas.Result.{err_from_is_err_and}
 use Rattle.text.specs.Operands.{line_read}
 use Rattle.text.proofs.Taking.{took_rest, took_same, left_none, left_some, same_after, no_word, no_line, good_line}

@@ -1,4 +1,4 @@
-use Rattle.std.proofs.Common.{◌≡◌, Some, None, sym, refl, ap, ◌∙◌, subst, arith}
+use Rattle.std.proofs.Common.{Some, sym, refl, ap, ◌∙◌, subst}
 use Rattle.text.specs.Meanings.{Seen, first_seen, IsPart}
 use Rattle.text.proofs.Lexing.{next_some, next_none, next_place, next_part}
 use Rattle.text.proofs.reader.Reader.next_token.Goals as goal

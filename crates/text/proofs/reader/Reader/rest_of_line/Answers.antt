@@ -1,4 +1,4 @@
-use Rattle.std.proofs.Common.{◌≡◌, List, [], take, drop, sym, ap}
+use Rattle.std.proofs.Common.{take, sym}
 use Rattle.std.proofs.lemmas.List.{at_drop_all}
 use Rattle.std.proofs.lemmas.Bool.{leb-true}
 use Rattle.text.specs.TextLines.{line_length}
