@@ -1,6 +1,6 @@
 -- Lines whose fields and numbers keep within limits.
 use Rattle.std.specs.Prelude.{◌≡◌, ℕ, ◌^◌, ◌<◌, true, List}
-use Rattle.std.specs.List.{AllByRecursion as All}
+use Rattle.std.specs.List.{AllByRecursion}
 use Rattle.lines.specs.Operations.{immediate, under, within}
 use Rattle.lines.specs.declared.line.Line.{Line}
 use Rattle.lines.specs.declared.line.Line.TheVariants as line
@@ -21,4 +21,4 @@ LineBelow k (line.Turn i n) = (under k i ≡ true) × Short n
 
 -- The same of each line of a table.
 abbrev pub TableBelow : ℕ → List Line → Type 0
-TableBelow k table = All (LineBelow k) table
+TableBelow k table = AllByRecursion (LineBelow k) table

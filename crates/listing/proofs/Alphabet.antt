@@ -2,7 +2,7 @@
 use Rattle.std.proofs.Common.{◌≡◌, ℕ, ◌<◌, Bool, true, false, ◌&&◌, ◌||◌, eqb, ◌⊎◌, List, [], ◌∷◌, ◌++◌, length, decimal, sym, refl, ◌∙◌, subst, inl, inr, ⊎_elim, arith}
 use Rattle.std.specs.Int.{IsInRange}
 use Rattle.std.specs.Char.{is_ascii_digit, is_ascii_lowercase}
-use Rattle.std.specs.List.{flat_map, AllByRecursion as All}
+use Rattle.std.specs.List.{flat_map, AllByRecursion}
 use Rattle.std.specs.Str.{all_ascii_digits}
 use Rattle.std.proofs.lemmas.Bool.{and_parts, and_from, eqb-true, leb-true, ltb-true, ne_eqb, or_cases, or_left}
 use Rattle.lines.specs.declared.field.Field.{Field}
@@ -55,7 +55,7 @@ word_bytes (b ∷ bs) e = e
 
 -- Words alone.
 abbrev pub Words : List (List ℕ) → Type 0
-Words ws = All (λ w. is_word w ≡ true) ws
+Words ws = AllByRecursion (λ w. is_word w ≡ true) ws
 
 -- Numbers and fields are words.
 number : (n : ℕ) → Short n → is_word (decimal n) ≡ true

@@ -4,6 +4,6 @@
 #[cfg(test)]
 mod admissions;
 #[cfg(test)]
-mod rules;
+mod checks;
 #[cfg(test)]
 mod texts;

@@ -1,7 +1,7 @@
 -- The lines that are read keep within the limits of a text.
 use Rattle.std.proofs.Common.{◌≡◌, ℕ, ◌+◌, ◌-◌, ◌≤◌, min, true, ◌&&◌, eqb, ltb, leb, List, [], ◌∷◌, length, IfSome, IfOk, Some, None, Ok, Err, Option, Result, arith, lit<}
 use Rattle.std.proofs.lemmas.Bool.{cond_both, and_parts, and_from, eqb-false, leb-true, lt-ltb}
-use Rattle.std.specs.List.{AllByRecursion as All}
+use Rattle.std.specs.List.{AllByRecursion}
 use Rattle.std.specs.Str.{all_ascii_digits}
 use Rattle.lines.specs.Operations.{under, under3}
 use Rattle.lines.specs.Sizes.{Short, LineBelow, TableBelow}
@@ -58,7 +58,7 @@ either_below None (Some f) n h g = h
 either_below None None (Some n) h g = g
 either_below None None None h g = tt
 
-meanings-below : (ps : List Piece) → All MeaningBelow (meanings ps)
+meanings-below : (ps : List Piece) → AllByRecursion MeaningBelow (meanings ps)
 meanings-below [] = tt
 meanings-below (p ∷ ps) =
     let bs = p.bytes in
@@ -69,19 +69,19 @@ then_made : {A B : Type 0} (P : A → Type 0) (Q : B → Type 0) (r : Result A R
 then_made P Q (Ok a) next h g = g a h
 then_made P Q (Err e) next h g = tt
 
-rest_below : (ms : List Meaning) → All MeaningBelow ms → All MeaningBelow (rest_of ms)
+rest_below : (ms : List Meaning) → AllByRecursion MeaningBelow ms → AllByRecursion MeaningBelow (rest_of ms)
 rest_below [] h = tt
 rest_below (m ∷ ms) h = h.1
 
 module _ (n : ℕ) where
-  field_first_lem : (ms : List Meaning) → All MeaningBelow ms → IfOk (field_first n ms) Known
+  field_first_lem : (ms : List Meaning) → AllByRecursion MeaningBelow ms → IfOk (field_first n ms) Known
   field_first_lem [] h = tt
   field_first_lem (word k ∷ ms) h = tt
   field_first_lem (field f ∷ ms) h = h.0
   field_first_lem (number k ∷ ms) h = tt
   field_first_lem (junk ∷ ms) h = tt
 
-  number_first_lem : (ms : List Meaning) → All MeaningBelow ms → IfOk (number_first n ms) Short
+  number_first_lem : (ms : List Meaning) → AllByRecursion MeaningBelow ms → IfOk (number_first n ms) Short
   number_first_lem [] h = tt
   number_first_lem (word k ∷ ms) h = tt
   number_first_lem (field f ∷ ms) h = tt
@@ -92,13 +92,13 @@ module _ (n : ℕ) where
   no_more_lem P a [] h = h
   no_more_lem P a (m ∷ ms) h = tt
 
-  one_field_lem : (ms : List Meaning) → All MeaningBelow ms → IfOk (one_field n ms) Known
+  one_field_lem : (ms : List Meaning) → AllByRecursion MeaningBelow ms → IfOk (one_field n ms) Known
   one_field_lem ms h = then_made Known _ (field_first n ms) _ (field_first_lem ms h) (λ a b. no_more_lem Known a (rest_of ms) b)
 
   abbrev TwoBelow : Field × Field → Type 0
   TwoBelow p = (under 96 p.0 && under 96 p.1) ≡ true
 
-  two_fields_lem : (ms : List Meaning) → All MeaningBelow ms → IfOk (two_fields n ms) TwoBelow
+  two_fields_lem : (ms : List Meaning) → AllByRecursion MeaningBelow ms → IfOk (two_fields n ms) TwoBelow
   two_fields_lem ms h =
       then_made Known TwoBelow (field_first n ms) _ (field_first_lem ms h)
       (λ d b. then_made Known TwoBelow (one_field n (rest_of ms)) _ (one_field_lem (rest_of ms) (rest_below ms h)) (λ a c. and_from _ _ b c))
@@ -106,18 +106,18 @@ module _ (n : ℕ) where
   abbrev ThreeBelow : Field × Field × Field → Type 0
   ThreeBelow p = under3 96 p.0 p.1 p.2 ≡ true
 
-  three_fields_lem : (ms : List Meaning) → All MeaningBelow ms → IfOk (three_fields n ms) ThreeBelow
+  three_fields_lem : (ms : List Meaning) → AllByRecursion MeaningBelow ms → IfOk (three_fields n ms) ThreeBelow
   three_fields_lem ms h =
       then_made Known ThreeBelow (field_first n ms) _ (field_first_lem ms h)
       (λ d b. then_made TwoBelow ThreeBelow (two_fields n (rest_of ms)) _ (two_fields_lem (rest_of ms) (rest_below ms h)) (λ p c. and_from _ _ b c))
 
-  one_number_lem : (ms : List Meaning) → All MeaningBelow ms → IfOk (one_number n ms) Short
+  one_number_lem : (ms : List Meaning) → AllByRecursion MeaningBelow ms → IfOk (one_number n ms) Short
   one_number_lem ms h = then_made Short Short (number_first n ms) _ (number_first_lem ms h) (λ k b. no_more_lem Short k (rest_of ms) b)
 
   abbrev PairBelow : Field × ℕ → Type 0
   PairBelow p = Known p.0 × Short p.1
 
-  field_and_number_lem : (ms : List Meaning) → All MeaningBelow ms → IfOk (field_and_number n ms) PairBelow
+  field_and_number_lem : (ms : List Meaning) → AllByRecursion MeaningBelow ms → IfOk (field_and_number n ms) PairBelow
   field_and_number_lem ms h =
       then_made Known PairBelow (field_first n ms) _ (field_first_lem ms h)
       (λ d b. then_made Short PairBelow (one_number n (rest_of ms)) _ (one_number_lem (rest_of ms) (rest_below ms h)) (λ k c. (b, c)))
@@ -132,7 +132,7 @@ module _ (n : ℕ) where
   applied-below binary.Same d a b h = (h, lit< tt)
   applied-below binary.Less d a b h = (h, lit< tt)
 
-  line_below : (k : Keyword) (ms : List Meaning) → All MeaningBelow ms → IfOk (line_of n k ms) (LineBelow 96)
+  line_below : (k : Keyword) (ms : List Meaning) → AllByRecursion MeaningBelow ms → IfOk (line_of n k ms) (LineBelow 96)
   line_below key.Word ms h = then_made PairBelow (LineBelow 96) (field_and_number n ms) _ (field_and_number_lem ms h) (λ p b. b)
   line_below key.Copy ms h = then_made TwoBelow (LineBelow 96) (two_fields n ms) _ (two_fields_lem ms h) (λ p b. (b, lit< tt))
   line_below key.Not ms h = then_made TwoBelow (LineBelow 96) (two_fields n ms) _ (two_fields_lem ms h) (λ p b. (b, lit< tt))
@@ -144,10 +144,10 @@ module _ (n : ℕ) where
   line_below key.Break ms h = no_more_lem (LineBelow 96) _ ms tt
   line_below key.Turn ms h = then_made PairBelow (LineBelow 96) (field_and_number n ms) _ (field_and_number_lem ms h) (λ p b. b)
 
-  some_below : (k : Keyword) (ms : List Meaning) → All MeaningBelow ms → IfOk (and_then (line_of n k ms) (λ x. Ok (Some x))) (Given (LineBelow 96))
+  some_below : (k : Keyword) (ms : List Meaning) → AllByRecursion MeaningBelow ms → IfOk (and_then (line_of n k ms) (λ x. Ok (Some x))) (Given (LineBelow 96))
   some_below k ms h = then_made (LineBelow 96) (Given (LineBelow 96)) (line_of n k ms) _ (line_below k ms h) (λ x b. b)
 
-  read_below : (ms : List Meaning) → All MeaningBelow ms → IfOk (line_read n ms) (Given (LineBelow 96))
+  read_below : (ms : List Meaning) → AllByRecursion MeaningBelow ms → IfOk (line_read n ms) (Given (LineBelow 96))
   read_below [] h = tt
   read_below (word k ∷ ms) h = some_below k ms h.1
   read_below (field f ∷ ms) h = tt
