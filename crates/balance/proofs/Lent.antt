@@ -2,7 +2,9 @@
 use Rattle.std.proofs.Common.{◌≡◌, ℕ, ◌<◌, ◌≤◌, ltb, List, [], ◌++◌, length, take, drop, Ok, Err, sym, refl, ap, ◌∙◌, subst, arith}
 use Rattle.std.proofs.lemmas.Bool.{lt-ltb, le-ltb, cond-true, cond-false}
 use Rattle.std.proofs.lemmas.List.{take_at}
+use Rattle.std.specs.List.{AllByRecursion}
 use Rattle.lines.specs.Overwrites.{overwrite, Wrote}
+use Rattle.lines.specs.Sizes.{OperationShort, TableBelow}
 use Rattle.lines.specs.declared.line.Line.{Line}
 use Rattle.lines.proofs.Overwrites.{overwrite-front}
 use Rattle.rules.specs.Trees.{rule_of}
@@ -16,7 +18,7 @@ use Rattle.balance.specs.Writing.{beginning, pass}
 use Rattle.balance.proofs.Passed.{passed}
 use Rattle.tables.proofs.Tables.{lines_flat}
 use Rattle.balance.proofs.Balances.{counted, balanced_short, balanced_admitted}
-use Rattle.balance.proofs.Limits.{balanced-below}
+use Rattle.balance.proofs.Limits.{below_short, balanced-below}
 
 -- what is written for a checked rule
 pub writes : (lines : List Line) → Checked lines → beginning ++ pass [] lines ≡ balanced_lines_of lines
@@ -31,8 +33,12 @@ always lines c =
       short = balanced_short r is.fits (subst (λ l. length l ≤ 256) is.tree is.short);
       tree = lines_flat (balanced r);
       counted = ap steps (lines_flat (balanced r)) ∙ counted r;
-      sized = balanced-below lines is;
+      sized = λ h. balanced-below lines is (below_short lines h);
     }
+
+-- short numbers are all that the balanced lines need to keep within the limits of a text
+pub sized : (lines : List Line) → Checked lines → AllByRecursion OperationShort lines → TableBelow 96 (balanced_lines_of lines)
+sized lines c short = balanced-below lines (is_rule lines c) short
 
 -- a count of lines that cannot be too large
 pub number_of : (lines : List Line) (t u : List Line) (n : ℕ) → Checked lines → Wrote t 0 (beginning ++ pass [] lines) u n → n ≡ length (balanced_lines_of lines)

@@ -1,11 +1,13 @@
--- The balanced table of a checked rule keeps within the limits of a text, if the rule does.
-use Rattle.std.proofs.Common.{◌≡◌, ℕ, zero, suc, ◌+◌, ◌-◌, List, [], sym, refl, subst, arith, lit<}
+-- The balanced table of a checked rule keeps within the limits of a text.
+use Rattle.std.proofs.Common.{◌≡◌, ℕ, zero, suc, ◌+◌, ◌-◌, List, [], ◌∷◌, sym, refl, subst, arith, lit<}
+use Rattle.std.specs.List.{AllByRecursion}
 use Rattle.lines.specs.Operations.{immediate, into}
-use Rattle.lines.specs.Sizes.{Short, TableBelow}
+use Rattle.lines.specs.Sizes.{Short, OperationShort, LineBelow, TableBelow}
 use Rattle.lines.specs.declared.field.Field.{Field}
 use Rattle.lines.specs.declared.operation.Operation.{Operation}
 use Rattle.lines.specs.declared.operation.Operation.TheVariants as op
 use Rattle.lines.specs.declared.line.Line.{Line}
+use Rattle.lines.specs.declared.line.Line.TheVariants as line
 use Rattle.rules.specs.Trees as rule
 use Rattle.rules.specs.Trees.{Rule, rule_of}
 use Rattle.rules.specs.Checks.{IsRule}
@@ -30,11 +32,25 @@ LinesShort stop = Unit {0}
 LinesShort (does o l) = Short (immediate o) × LinesShort l
 LinesShort (turn i n b l) = LinesShort b × LinesShort l
 
--- a table within the limits has them, and so has what stands behind a rule
-rule_short : (r : Rule) (after : List Line) → TableBelow 96 (rule.flat r after) → RuleShort r × TableBelow 96 after
+-- the numbers of a table within the limits are short
+operation_short : (x : Line) → LineBelow 96 x → OperationShort x
+operation_short line.End h = tt
+operation_short line.Else h = tt
+operation_short line.Break h = tt
+operation_short (line.Operation o) h = h.1
+operation_short (line.If a) h = tt
+operation_short (line.Loop i n) h = tt
+operation_short (line.Turn i n) h = tt
+
+pub below_short : (lines : List Line) → TableBelow 96 lines → AllByRecursion OperationShort lines
+below_short [] h = tt
+below_short (x ∷ xs) h = (operation_short x h.0, below_short xs h.1)
+
+-- a table of short numbers has them, and so has what stands behind a rule
+rule_short : (r : Rule) (after : List Line) → AllByRecursion OperationShort (rule.flat r after) → RuleShort r × AllByRecursion OperationShort after
 unfolding rule.flat
 rule_short rule.done after h = (tt, h)
-rule_short (rule.op o r) after h = let c = rule_short r after h.1 in ((h.0.1, c.0), c.1)
+rule_short (rule.op o r) after h = let c = rule_short r after h.1 in ((h.0, c.0), c.1)
 rule_short (rule.when a p q r) after h =
     let b = rule_short p _ h.1 in
     let c = rule_short q _ b.1.1 in
@@ -90,9 +106,9 @@ lines_below (does o l) d after r s h = ((r.0, s.0), lines_below l d after r.1 s.
 lines_below (turn i n b l) d after r s h =
     ((r.0, omega (arith, r.2)), lines_below b (d + 1) _ r.3 s.0 (tt, lines_below l d after r.4 s.1 h))
 
-pub balanced-below : (lines : List Line) → IsRule lines → TableBelow 96 lines → TableBelow 96 (balanced_lines_of lines)
+pub balanced-below : (lines : List Line) → IsRule lines → AllByRecursion OperationShort lines → TableBelow 96 (balanced_lines_of lines)
 unfolding balanced
 balanced-below lines is h =
     let c = rule_of lines in
-    let short = (rule_short c [] (subst (TableBelow 96) is.tree h)).0 in
+    let short = (rule_short c [] (subst (AllByRecursion OperationShort) is.tree h)).0 in
     lines_below (balanced c) 0 [] (balanced_runs c is.fits) (none, (lit< tt, (none, balance_short c 0 0 stop short tt))) tt

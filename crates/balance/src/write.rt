@@ -1,5 +1,7 @@
 ghost use Rattle.std.specs.Prelude.{◌≡◌, ◌+◌, ◌-◌, ◌≤◌, []};
 ghost use Rattle.lines.specs.Overwrites.{Wrote};
+ghost use Rattle.lines.specs.Operations.{immediate};
+ghost use Rattle.lines.specs.Sizes.{OperationShort, Short};
 ghost use Rattle.nesting.specs.Nesting.{view};
 ghost use Rattle.nesting.specs.Levels.{opens};
 ghost use Rattle.balance.specs.Fields.{mask, choice, saved};
@@ -45,7 +47,7 @@ fn saved(level: usize) -> Field
     Field(84 + level as u8)
 }
 
-/// The masks of level 0 count everywhere.
+/// The fields that hold 0 and 1, and the mask of level 0, which is all ones.
 pub(crate) fn write_beginning(table: &mut [Line]) -> usize
     ensures { Wrote table.old 0 beginning table.new result }
 {
@@ -60,7 +62,8 @@ pub(crate) fn write_beginning(table: &mut [Line]) -> usize
 /// The operation is done on the side, and kept only under the mask: elsewhere the old word stays.
 fn write_operation(table: &mut [Line], at: usize, level: usize, operation: Operation) -> usize
     requires { level ≤ 8 }
-    ensures { Wrote table.old at (operating level operation) table.new result }
+    ensures wrote { Wrote table.old at (operating level operation) table.new result }
+    ensures short { Short (immediate operation) }
 {
     let d = operation.destination();
     let mask = mask(level);
@@ -177,7 +180,8 @@ pub(crate) fn write_line<T: Copy>(
     stack: &Stack<Frame<T>>,
     line: &Line,
 ) -> usize
-    ensures { Wrote table.old at (written (opens (view stack.now.items stack.now.depth)) line.now) table.new result }
+    ensures wrote { Wrote table.old at (written (opens (view stack.now.items stack.now.depth)) line.now) table.new result }
+    ensures short { OperationShort line.now }
 {
     let level = stack.len();
     match line {

@@ -9,6 +9,16 @@ use Rattle.lines.specs.declared.line.Line.TheVariants as line
 abbrev pub Short : ℕ → Type 0
 Short n = n < 2 ^ 32
 
+-- The number in an operation line has at most 32 bits.
+abbrev pub OperationShort : Line → Type 0
+OperationShort line.End = Unit {0}
+OperationShort line.Else = Unit {0}
+OperationShort line.Break = Unit {0}
+OperationShort (line.Operation o) = Short (immediate o)
+OperationShort (line.If a) = Unit {0}
+OperationShort (line.Loop i n) = Unit {0}
+OperationShort (line.Turn i n) = Unit {0}
+
 -- Each field of the line is one of the first k, and a number in it has at most 32 bits.
 abbrev pub LineBelow : ℕ → Line → Type 0
 LineBelow k line.End = Unit {0}

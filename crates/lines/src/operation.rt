@@ -1,5 +1,6 @@
 ghost use Rattle.std.specs.Prelude.{◌≡◌, Bool};
-ghost use Rattle.lines.specs.Operations.{destination, into, within};
+ghost use Rattle.lines.specs.Operations.{destination, into, within, immediate};
+ghost use Rattle.lines.specs.Sizes.{Short};
 
 use crate::field::Field;
 
@@ -43,9 +44,10 @@ impl Operation {
         }
     }
 
-    /// The same operation, its result put into another field.
+    /// The same operation, its result put into another field. The number that it holds has, as its type says, at most 32 bits.
     pub fn into_field(self, d: Field) -> Operation
-        ensures { result ≡ into self d }
+        ensures value { result ≡ into self d }
+        ensures short { Short (immediate self) }
     {
         match self {
             Operation::Word(_, n) => Operation::Word(d, n),

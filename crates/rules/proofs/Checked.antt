@@ -29,6 +29,10 @@ plain_below (loop i n b r) k j =
     let m = mul-le-mul_left n le in omega arith
 plain_below (break r) k j = let h = plain_below r k j in omega arith
 
+pub plain_balanced : (r : Rule) → plain_cost r ≤ balanced_cost r
+unfolding balanced_cost
+plain_balanced r = let h = plain_below r 0 0 in omega arith
+
 -- the last test of the pass, and the costs that it answers
 closes : (n : ℕ) (r : Rule) → finish n ([], plus start (plain_cost r) (block_cost r 0 0)) ≡ or_fault (unless (ltb (balanced_cost r) 65536) (fault.TooManySteps n)) (costs_of r)
 unfolding balanced_cost

@@ -1,5 +1,7 @@
-ghost use Rattle.std.specs.Prelude.{◌≡◌, [], OnOk};
+ghost use Rattle.std.specs.Prelude.{◌≡◌, ◌≤◌, [], OnOk};
 ghost use Rattle.rules.specs.Checks.{checked, Checked, IsRule};
+ghost use Rattle.rules.specs.Costs.{plain_cost, balanced_cost};
+ghost use Rattle.rules.specs.Trees.{rule_of};
 ghost use Rattle.nesting.specs.Nesting.{view};
 ghost use Rattle.rules.specs.Passes.{plus, if_costs, loop_costs, opening, halving, closing, breaking, step, standing, start, pass, finish};
 
@@ -216,6 +218,9 @@ pub fn check(lines: &[Line]) -> Result<Costs, CheckFault>
     ensures answer { result ≡ checked lines.now }
     ensures passed { OnOk result (Checked lines.now) }
     ensures rule { Checked lines.now → IsRule lines.now }
+
+    // A plain run is never longer than the balanced one.
+    ensures plain { plain_cost (rule_of lines.now) ≤ balanced_cost (rule_of lines.now) }
 {
     if lines.len() > MAX_RULE_LINES {
         return Err(CheckFault::TooManyLines(lines.len()));

@@ -1,10 +1,15 @@
-use Rattle.std.proofs.Common.{◌≡◌, ◌+◌, [], ◌++◌, get_or, drop, sym, ap, ◌∙◌, append_assoc, arith}
-use Rattle.std.proofs.lemmas.List.{drop_more, at_drop_all, append-nil}
+use Rattle.std.proofs.Common.{◌≡◌, ◌+◌, List, [], ◌∷◌, ◌++◌, length, get_or, drop, None, sym, refl, ap, ◌∙◌, subst, append_assoc, arith}
+use Rattle.std.proofs.lemmas.List.{drop_more, at_drop_all, take_all, append-nil}
+use Rattle.std.proofs.ByRecursion.{All-more}
+use Rattle.std.specs.List.{AllByRecursion}
+use Rattle.lines.specs.Sizes.{OperationShort}
+use Rattle.lines.specs.declared.line.Line.{Line}
 use Rattle.lines.specs.declared.line.Line.TheVariants as line
 use Rattle.lines.proofs.Overwrites.{wrote_none, wrote_more, wrote_same}
+use Rattle.nesting.specs.declared.open.Open.{Open}
 use Rattle.nesting.specs.Nesting.{view}
 use Rattle.nesting.specs.Levels.{opens}
-use Rattle.rules.specs.Checks.{nesting_fault}
+use Rattle.rules.specs.Checks.{after, nesting_fault}
 use Rattle.nesting.proofs.Levels.{length-opens}
 use Rattle.nesting.proofs.Views.{length-view}
 use Rattle.balance.specs.Writing.{written, pass}
@@ -17,6 +22,7 @@ loop-line-init c =
     let e = ap opens c.new-stack.ensures in (
       ap (λ os. nesting_fault 0 os c.args.lines.now) e ∙ c.requires,
       ([], wrote_none c.args.table.now c.args.at (omega arith), ap (λ os. pass os c.args.lines.now) e),
+      tt,
     )
 
 pub advance-requires : goal.advance-requires
@@ -42,11 +48,12 @@ loop-line-preserved c =
       ap (λ o. nesting_fault (i + 1) o rest) c.advance.ensures ∙ nested_rest x rest i os (ap (nesting_fault i os) (sym here) ∙ inv.0),
       (
         front ++ written os x,
-        wrote_more _ _ _ _ _ _ _ _ (omega arith) inv.1.1 c.write_line-next.ensures,
+        wrote_more _ _ _ _ _ _ _ _ (omega arith) inv.1.1 c.write_line-next.ensures.wrote,
         append_assoc front (written os x) (pass next rest)
             ∙ ap (λ o. front ++ (written os x ++ pass o rest)) c.advance.ensures
             ∙ ap (λ l. front ++ l) (sym (pass_more os x rest) ∙ ap (pass os) (sym here)) ∙ inv.1.2,
       ),
+      All-more OperationShort xs i line.End (omega arith) inv.2 c.write_line-next.ensures.short,
     )
 
 pub returns : goal.returns
@@ -55,4 +62,7 @@ returns c =
     let xs = c.args.lines.now in
     let inv = c.loop-line.invariant.1 in
     let none : pass os (drop c.loop-line.line-index xs) ≡ [] = at_drop_all (pass os) xs c.loop-line.line-index (omega arith) ∙ pass_none os in
-    wrote_same _ _ _ _ _ _ (sym (append-nil inv.0) ∙ ap (λ l. inv.0 ++ l) (sym none) ∙ inv.2) inv.1
+    record {
+      wrote = wrote_same _ _ _ _ _ _ (sym (append-nil inv.0) ∙ ap (λ l. inv.0 ++ l) (sym none) ∙ inv.2) inv.1;
+      short = subst (AllByRecursion OperationShort) (take_all c.loop-line.line-index xs (omega arith)) c.loop-line.invariant.2;
+    }

@@ -1,4 +1,6 @@
-use Rattle.std.proofs.Common.{◌≡◌, List, [], ◌++◌, drop, None}
+use Rattle.std.proofs.Common.{◌≡◌, List, [], ◌++◌, take, drop, None}
+use Rattle.std.specs.List.{AllByRecursion}
+use Rattle.lines.specs.Sizes.{OperationShort}
 use Rattle.lines.specs.Overwrites.{Wrote}
 use Rattle.lines.specs.declared.line.Line.{Line}
 use Rattle.nesting.specs.Nesting.{view}
@@ -12,3 +14,4 @@ invariant-loop-line l =
     (nesting_fault l.line-index (opens (view l.stack.items l.stack.depth)) (drop l.line-index l.lines) ≡ None)
     × ((front : List Line) × Wrote l.initial.table l.at front l.table l.next
     × (front ++ pass (opens (view l.stack.items l.stack.depth)) (drop l.line-index l.lines) ≡ pass [] l.lines))
+    × AllByRecursion OperationShort (take l.line-index l.lines)

@@ -3,4 +3,7 @@ use Rattle.lines.proofs.Overwrites.{wrote_more}
 use Rattle.balance.proofs.balance.write_rule.Goals as goal
 
 pub returns : goal.returns
-returns c = wrote_more _ _ _ _ _ _ _ _ (omega arith) c.write_beginning-next.ensures c.write_lines.ensures
+returns c = record {
+  wrote = wrote_more _ _ _ _ _ _ _ _ (omega arith) c.write_beginning-next.ensures c.write_lines.ensures.wrote;
+  short = c.write_lines.ensures.short;
+}
