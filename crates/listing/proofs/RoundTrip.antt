@@ -93,7 +93,7 @@ line_short (line.If a) h = one_short (codes "if") (lit≤ tt) a h
 line_short (line.Loop i n) h = counted_short (codes "loop") (lit≤ tt) i n h
 line_short (line.Turn i n) h = counted_short (codes "turn") (lit≤ tt) i n h
 
-listing_short : (t : List Line) → TableBelow 96 t → length (listing t) ≤ 20 * length t
+pub listing_short : (t : List Line) → TableBelow 96 t → length (listing t) ≤ 20 * length t
 listing_short [] h = omega arith
 listing_short (l ∷ t) h = omega (arith, length-append (line_bytes l) (listing t), line_short l h.0, listing_short t h.1)
 

@@ -1,7 +1,7 @@
 //! Tables of lines written out as text: a text line for each line, its words with single spaces between them.
 #![tactic(auto)]
 
-ghost use Rattle.std.specs.Prelude.{◌≡◌, ◌≤◌, length};
+ghost use Rattle.std.specs.Prelude.{◌≡◌, ◌*◌, ◌≤◌, length};
 ghost use Rattle.lines.specs.Overwrites.{Wrote};
 ghost use Rattle.lines.specs.Sizes.{TableBelow};
 ghost use Rattle.listing.specs.Listing.{listing};
@@ -15,6 +15,9 @@ mod number;
 use fault::ListFault;
 use line::write_line;
 use lines::line::Line;
+
+/// The most bytes of a line with fields to f95, its end included: `word f95 4294967295` has as many.
+pub const MAX_LINE_BYTES: usize = 20;
 
 /// Writes the listing, as far as it fits, and answers how many bytes it has.
 fn write_lines(table: &[Line], buffer: &mut [u8]) -> usize
@@ -32,6 +35,7 @@ fn write_lines(table: &[Line], buffer: &mut [u8]) -> usize
 pub fn list(table: &[Line], buffer: &mut [u8]) -> Result<usize, ListFault>
     ensures answer { result ≡ listed table.now (length buffer.old) }
     ensures bytes { buffer.new ≡ buffer_after table.now buffer.old }
+    ensures short { TableBelow 96 table.now → length (listing table.now) ≤ 20 * length table.now }
     ensures roundtrip { TableBelow 96 table.now → length table.now ≤ 2400 → ReadsBack table.now }
 {
     // Into an empty buffer the bytes are only counted.

@@ -1,18 +1,54 @@
 -- What a reading leaves in front of the table.
-use Rattle.std.proofs.Common.{◌≡◌, ℕ, ◌-◌, ◌≤◌, List, length, take, drop, Some, None, Ok, Err, Option, sym, ap, ◌∙◌, arith}
+use Rattle.std.proofs.Common.{◌≡◌, ℕ, ◌-◌, ◌≤◌, List, length, take, drop, Some, None, Ok, Err, Option, sym, ap, ◌∙◌, subst, arith}
 use Rattle.std.proofs.lemmas.List.{length-append, take_at}
+use Rattle.lines.specs.Sizes.{TableBelow}
 use Rattle.lines.specs.declared.line.Line.{Line}
 use Rattle.rules.specs.declared.check.Costs.{Costs}
-use Rattle.rules.specs.Checks.{checked}
+use Rattle.rules.specs.declared.fault.CheckFault.{CheckFault}
+use Rattle.rules.specs.Checks.{Checked, checked, costs_of, first_fault}
+use Rattle.rules.specs.Trees.{rule_of}
+use Rattle.nesting.specs.Conditions.{or_fault}
+use Rattle.tables.specs.Admission.{lines_of}
+use Rattle.tables.specs.Steps.{steps}
+use Rattle.balance.specs.Balancing.{balanced_lines_of, Written}
+use Rattle.balance.proofs.Lent.{always}
+use Rattle.listing.specs.RoundTrip.{ReadsBack}
+use Rattle.listing.proofs.RoundTrip.{reads_back}
 use Rattle.text.specs.declared.fault.ReadFault.{ReadFault}
 use Rattle.text.specs.Reading.{Reading, answered, answer, filled}
 use Rattle.preparation.specs.declared.fault.PrepareFault.{PrepareFault}
 use Rattle.preparation.specs.declared.fault.PrepareFault.TheVariants as fault
-use Rattle.preparation.specs.Preparing.{staged, balancing, readied, checked_after, read_after}
+use Rattle.preparation.specs.Preparing.{staged, balancing, readied, checked_after, read_after, Balanced}
 
 counted : (o : Option ReadFault) (n k : ℕ) → Ok n ≡ answered o k → n ≡ k
 counted None n k e = cc
 counted (Some f) n k e = absurd (let z : ◌≡◌ {A = ℕ} 0 1 = cc in omega arith)
+
+-- What a rule that passed the check costs.
+pub costs_are : (lines : List Line) (costs : Costs) → Ok costs ≡ checked lines → costs ≡ costs_of (rule_of lines)
+costs_are lines costs e = by_fault (first_fault lines) e
+  where
+    by_fault : (o : Option CheckFault) → Ok costs ≡ or_fault o (costs_of (rule_of lines)) → costs ≡ costs_of (rule_of lines)
+    by_fault None e = cc
+    by_fault (Some f) e = absurd (grind arith)
+
+-- What was written for it, with its costs.
+pub balanced_is : (lines table : List Line) (n : ℕ) (costs : Costs) → Checked lines → Ok costs ≡ checked lines → Written n table → take n table ≡ balanced_lines_of lines → TableBelow 96 (take n table) → Balanced lines (take n table) costs
+balanced_is lines table n costs fine e w same sized =
+    let all = always lines fine in
+    let are = costs_are lines costs e in
+    record {
+      checked = fine;
+      costed = are;
+      lines = same;
+      admitted = w.admitted;
+      sized = sized;
+      steps = ap (λ l. steps (lines_of l)) same ∙ all.counted ∙ sym (ap (λ k. k.balanced) are);
+    }
+
+-- The balanced table reads back from its listing.
+pub table_back : (lines table : List Line) (costs : Costs) → Balanced lines table costs → ReadsBack table
+table_back lines table costs b = reads_back table b.sized (subst (λ l. length l ≤ 2400) (sym b.lines) (always lines b.checked).short)
 
 module _ (r : Reading) (n : ℕ) (before after : List Line) (ok : Ok n ≡ answer r) (left : after ≡ filled r before) (kept : length after ≡ length before) where
   pub read_count : n ≡ length r.lines

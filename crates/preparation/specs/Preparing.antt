@@ -1,9 +1,13 @@
 -- What preparing a rule answers, and what it leaves in the two lent tables.
-use Rattle.std.specs.Prelude.{ℕ, ◌≤◌, List, length, take, Ok, Err, Result}
+use Rattle.std.specs.Prelude.{◌≡◌, ℕ, ◌≤◌, List, length, take, Ok, Err, Result}
+use Rattle.lines.specs.Sizes.{TableBelow}
 use Rattle.lines.specs.declared.line.Line.{Line}
 use Rattle.rules.specs.declared.check.Costs.{Costs}
 use Rattle.rules.specs.declared.fault.CheckFault.{CheckFault}
-use Rattle.rules.specs.Checks.{Checked, checked}
+use Rattle.rules.specs.Checks.{Checked, checked, costs_of}
+use Rattle.rules.specs.Trees.{rule_of}
+use Rattle.tables.specs.Admission.{Admitted, lines_of}
+use Rattle.tables.specs.Steps.{steps}
 use Rattle.balance.specs.Balancing.{balanced_lines_of, balance_answer, table_after, Written}
 use Rattle.text.specs.declared.fault.ReadFault.{ReadFault}
 use Rattle.text.specs.Reading.{Reading, reading, answer}
@@ -44,6 +48,16 @@ read_after (Ok n) lines table = checked_after (checked lines) lines table
 
 abbrev pub second_table : List ℕ → ℕ → List Line → List Line
 second_table text entries table = let r = reading text entries in read_after (answer r) r.lines table
+
+-- A rule and its balanced table: the rule is checked and has these costs; the table holds its balanced lines and no others, is admitted, has fields
+-- to f95 and numbers of at most 32 bits, and takes the steps that the costs say.
+pub record Balanced (rule table : List Line) (costs : Costs) : Type 0 where
+  pub checked : Checked rule
+  pub costed : costs ≡ costs_of (rule_of rule)
+  pub lines : table ≡ balanced_lines_of rule
+  pub admitted : Admitted table
+  pub sized : TableBelow 96 table
+  pub steps : steps (lines_of table) ≡ costs.balanced
 
 -- What was prepared stands in front of the two tables, the rule checked and its balanced lines admitted.
 pub record Ready (p : Prepared) (rule table : List Line) : Type 0 where

@@ -1,8 +1,9 @@
-ghost use Rattle.std.specs.Prelude.{◌≡◌, length, IfOk};
+ghost use Rattle.std.specs.Prelude.{◌≡◌, length, take, IfOk};
 ghost use Rattle.rules.specs.Checks.{Checked, checked};
 ghost use Rattle.balance.specs.Balancing.{Written};
+ghost use Rattle.listing.specs.RoundTrip.{ReadsBack};
 ghost use Rattle.text.specs.Reading.{reading, filled};
-ghost use Rattle.preparation.specs.Preparing.{balancing, checked_after, preparing, second_table, Ready};
+ghost use Rattle.preparation.specs.Preparing.{balancing, checked_after, preparing, second_table, Balanced, Ready};
 
 use crate::fault::PrepareFault;
 use balance::balance::balance;
@@ -23,6 +24,7 @@ fn check_and_balance(lines: &[Line], table: &mut [Line]) -> Result<(Costs, usize
     ensures answer { result ≡ balancing lines.now (length table.old) }
     ensures table { table.new ≡ checked_after (checked lines.now) lines.now table.old }
     ensures ready { IfOk result (λ p. Checked lines.now × Written p.1 table.new) }
+    ensures balanced { IfOk result (λ p. Balanced lines.now (take p.1 table.new) p.0) }
 {
     let costs = check(lines)?;
     let balanced_lines = balance(lines, table)?;
@@ -36,6 +38,11 @@ pub fn prepare(text: &[u8], rule: &mut [Line], table: &mut [Line]) -> Result<Pre
     ensures rule { rule.new ≡ filled (reading text.now (length rule.old)) rule.old }
     ensures table { table.new ≡ second_table text.now (length rule.old) table.old }
     ensures ready { IfOk result (λ p. Ready p rule.new table.new) }
+    ensures balanced { IfOk result (λ p. Balanced (take p.rule_lines rule.new) (take p.balanced_lines table.new) p.costs) }
+
+    // The listing of each table reads back as that table.
+    ensures rule_back { IfOk result (λ p. ReadsBack (take p.rule_lines rule.new)) }
+    ensures table_back { IfOk result (λ p. ReadsBack (take p.balanced_lines table.new)) }
 {
     let rule_lines = read(text, rule)?;
     let (costs, balanced_lines) = check_and_balance(&rule[0..rule_lines], table)?;

@@ -1,7 +1,7 @@
 use Rattle.std.proofs.Common.{◌≡◌, ◌<◌, ◌≤◌, length, Ok, ap, ◌∙◌, arith}
 use Rattle.listing.specs.Listing.{listing}
 use Rattle.listing.proofs.Tables.{short_answer, short_buffer, fit_answer, fit_buffer}
-use Rattle.listing.proofs.RoundTrip.{reads_back}
+use Rattle.listing.proofs.RoundTrip.{listing_short, reads_back}
 use Rattle.listing.proofs.list.Goals as goal
 
 pub returns-then-needed-buffer : goal.returns-then-needed-buffer
@@ -9,7 +9,7 @@ returns-then-needed-buffer c =
     let table = c.args.table.now in
     let buffer = c.args.buffer.now in
     let h : length buffer < length (listing table) = omega (arith, c.write_lines-needed.ensures.onward) in
-    record { answer = short_answer table buffer h; bytes = short_buffer table buffer h; roundtrip = reads_back table }
+    record { answer = short_answer table buffer h; bytes = short_buffer table buffer h; short = listing_short table; roundtrip = reads_back table }
 
 pub returns : goal.returns
 returns c =
@@ -20,5 +20,6 @@ returns c =
     record {
       answer = ap Ok n ∙ fit_answer table buffer h;
       bytes = c.write_lines.ensures.entries ∙ fit_buffer table buffer h;
+      short = listing_short table;
       roundtrip = reads_back table;
     }

@@ -1,9 +1,12 @@
-use Rattle.std.proofs.Common.{List, length, sym, ◌∙◌, subst}
+use Rattle.std.proofs.Common.{List, length, take, sym, ◌∙◌, subst}
 use Rattle.std.proofs.lemmas.Result.{err_from_is_err_and}
 use Rattle.lines.specs.declared.line.Line.{Line}
 use Rattle.rules.specs.Checks.{Checked}
+use Rattle.listing.specs.RoundTrip.{ReadsBack}
+use Rattle.listing.proofs.RoundTrip.{reads_back}
+use Rattle.preparation.specs.Preparing.{Balanced}
 use Rattle.text.specs.Reading.{reading}
-use Rattle.preparation.proofs.Fronts.{read_within, read_front, read_part, refused-after, done_after, second_after}
+use Rattle.preparation.proofs.Fronts.{read_within, read_front, read_part, refused-after, done_after, second_after, table_back}
 use Rattle.preparation.proofs.prepare.prepare.Goals as goal
 
 pub slice_bounds-check_and_balance-end : goal.slice_bounds-check_and_balance-end
@@ -28,6 +31,9 @@ returns-in_err-costs c =
       rule = left;
       table = c.check_and_balance.ensures.table ∙ second_after r n c.args.rule.now c.read.new.table ok left kept _ same room c.args.table.now;
       ready = tt;
+      balanced = tt;
+      rule_back = tt;
+      table_back = tt;
     })
 
 pub returns : goal.returns
@@ -45,9 +51,14 @@ returns c =
     let e = sym c.in_ok-costs.ensures.answer in
     let answer = done_after r n before after ok left kept _ same room _ _ e in
     let ready = c.in_ok-costs.ensures.ready in
+    let m = c.in_ok-costs.balanced_lines in
+    let balanced = c.in_ok-costs.ensures.balanced in
     record {
       answer = sym answer;
       rule = left;
       table = c.check_and_balance.ensures.table ∙ second_after r n before after ok left kept _ same room c.args.table.now;
       ready = record { within = read_within r n before after ok left kept; checked = subst (λ (l : List Line). Checked l) (same ∙ sym front) ready.0; written = ready.1 };
+      balanced = subst (λ (l : List Line). Balanced l (take m c.check_and_balance.new.table) c.in_ok-costs.costs) (same ∙ sym front) balanced;
+      rule_back = subst ReadsBack (sym front) (reads_back r.lines c.read.ensures.below c.read.ensures.few);
+      table_back = table_back _ _ _ balanced;
     }
