@@ -1,5 +1,5 @@
 -- The stages, numbers and places of the faults of preparing a rule.
-use Rattle.std.specs.Prelude.{ℕ}
+use Rattle.std.specs.Prelude.{ℕ, List, ◌++◌, codes, decimal}
 use Rattle.rules.specs.Faults.{fault_number, fault_place}
 use Rattle.balance.specs.Faults.{balance_number, balance_place}
 use Rattle.text.specs.Faults.{read_number, read_place}
@@ -7,6 +7,12 @@ use Rattle.preparation.specs.declared.fault.Stage.{Stage}
 use Rattle.preparation.specs.declared.fault.Stage.TheVariants as stage
 use Rattle.preparation.specs.declared.fault.PrepareFault.{PrepareFault}
 use Rattle.preparation.specs.declared.fault.PrepareFault.TheVariants as fault
+
+-- What a stage is called.
+abbrev pub stage_name : Stage → List ℕ
+stage_name stage.Read = codes "read"
+stage_name stage.Check = codes "check"
+stage_name stage.Balance = codes "balance"
 
 -- The stage that refused.
 abbrev pub prepare_stage : PrepareFault → Stage
@@ -25,3 +31,11 @@ abbrev pub prepare_place : PrepareFault → ℕ
 prepare_place (fault.Read f) = read_place f
 prepare_place (fault.Check f) = fault_place f
 prepare_place (fault.Balance f) = balance_place f
+
+-- The line that reports a refusal at a stage of that name: `refused`, the name, the number and the place.
+abbrev pub refused_text : List ℕ → ℕ → ℕ → List ℕ
+refused_text stage number place = codes "refused " ++ (stage ++ (codes " " ++ (decimal number ++ (codes " " ++ decimal place))))
+
+-- The line that reports a fault of preparing.
+abbrev pub refusal_line : PrepareFault → List ℕ
+refusal_line f = refused_text (stage_name (prepare_stage f)) (prepare_number f) (prepare_place f)

@@ -1,5 +1,8 @@
-ghost use Rattle.std.specs.Prelude.{◌≡◌};
-ghost use Rattle.preparation.specs.Explaining.{fault_line};
+//! What is said of a refusal: the line that reports it, a sentence for a person, and the line of the text that is at fault.
+
+ghost use Rattle.std.specs.Prelude.{◌≡◌, Some};
+ghost use Rattle.preparation.specs.Explaining.{fault_line, read_sentence, check_sentence, balance_sentence, sentence};
+ghost use Rattle.preparation.specs.Faults.{refusal_line};
 
 use crate::fault::PrepareFault;
 use balance::fault::BalanceFault;
@@ -23,7 +26,10 @@ pub fn fault_line(fault: &PrepareFault, text: &[u8]) -> Option<usize>
     }
 }
 
-fn read_sentence(fault: &ReadFault) -> &'static str {
+/// What is wrong with a text that is not read.
+fn read_sentence(fault: &ReadFault) -> &'static str
+    ensures { result.now ≡ read_sentence fault.now }
+{
     match fault {
         ReadFault::TextTooLong => "the text has more than 65,536 bytes",
         ReadFault::NoLineWord(_) => "the line does not begin with a line word",
@@ -35,7 +41,10 @@ fn read_sentence(fault: &ReadFault) -> &'static str {
     }
 }
 
-fn check_sentence(fault: &CheckFault) -> &'static str {
+/// What is wrong with a table that is no rule.
+fn check_sentence(fault: &CheckFault) -> &'static str
+    ensures { result.now ≡ check_sentence fault.now }
+{
     match fault {
         CheckFault::TooManyLines(_) => "the rule has more than 256 lines",
         CheckFault::TurnInRule(_) => "a rule has no `turn`",
@@ -52,18 +61,46 @@ fn check_sentence(fault: &CheckFault) -> &'static str {
     }
 }
 
-fn sentence(fault: &PrepareFault) -> &'static str {
+/// Why a rule is not balanced.
+fn balance_sentence(fault: &BalanceFault) -> &'static str
+    ensures { result.now ≡ balance_sentence fault.now }
+{
+    match fault {
+        BalanceFault::TableTooShort => "the table has no room for the balanced lines",
+    }
+}
+
+/// What is wrong, whatever stage refuses.
+fn sentence(fault: &PrepareFault) -> &'static str
+    ensures { result.now ≡ sentence fault.now }
+{
     match fault {
         PrepareFault::Read(fault) => read_sentence(fault),
         PrepareFault::Check(fault) => check_sentence(fault),
-        PrepareFault::Balance(BalanceFault::TableTooShort) =>
-            "the table has no room for the balanced lines",
+        PrepareFault::Balance(fault) => balance_sentence(fault),
     }
 }
 
 /// A plain sentence that says what is wrong.
 impl fmt::Display for PrepareFault {
+    ghost output = { λ fault. Some (sentence fault) };
+
     fn fmt<W: fmt::Write>(&self, f: &mut fmt::Formatter<W>) -> fmt::Result {
         f.write_str(sentence(self))
+    }
+}
+
+/// The line that reports a refusal, `refused STAGE NUMBER PLACE`.
+#[derive(Clone, Copy)]
+pub struct Refusal(pub PrepareFault);
+
+impl fmt::Display for Refusal {
+    ghost output = { λ refusal. Some (refusal_line refusal.0) };
+
+    fn fmt<W: fmt::Write>(&self, f: &mut fmt::Formatter<W>) -> fmt::Result {
+        let stage = self.0.stage().name();
+        let number = self.0.number();
+        let place = self.0.place();
+        write!(f, "refused {stage} {number} {place}")
     }
 }

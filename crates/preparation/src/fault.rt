@@ -1,5 +1,5 @@
 ghost use Rattle.std.specs.Prelude.{◌≡◌};
-ghost use Rattle.preparation.specs.Faults.{prepare_stage, prepare_number, prepare_place};
+ghost use Rattle.preparation.specs.Faults.{stage_name, prepare_stage, prepare_number, prepare_place};
 ghost use Rattle.preparation.specs.declared.fault.PrepareFault.TheVariants.{Read, Check, Balance};
 
 use balance::fault::BalanceFault;
@@ -12,6 +12,19 @@ pub enum Stage {
     Read,
     Check,
     Balance,
+}
+
+impl Stage {
+    /// What the stage is called.
+    pub fn name(self) -> &'static str
+        ensures { result.now ≡ stage_name self }
+    {
+        match self {
+            Stage::Read => "read",
+            Stage::Check => "check",
+            Stage::Balance => "balance",
+        }
+    }
 }
 
 /// Why a rule was not prepared: the stage, with its fault.
