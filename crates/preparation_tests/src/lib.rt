@@ -6,4 +6,6 @@ mod admissions;
 #[cfg(test)]
 mod checks;
 #[cfg(test)]
+mod explanations;
+#[cfg(test)]
 mod texts;

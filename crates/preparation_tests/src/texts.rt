@@ -69,6 +69,17 @@ fn short_texts(rt: HostRuntime) {
     }
 }
 
+#[test]
+fn edges_and_a_real_rule(rt: HostRuntime) {
+    let mut rule = [Line::Break; 16];
+    let mut table = [Line::Break; 40];
+    assert_eq!(rt; outcome(b"word f63 7", &mut rule, &mut table), (0, 8, 8));
+    assert_eq!(rt; outcome(b"add 7", &mut rule, &mut table), (1, 3, 1));
+    // The wedding songs: open 30 years after the singer's death.
+    let text = b"word f3 30\nadd f3 f3 f1\nless f4 f0 f3\nif f4\nword f2 0\nelse\nword f2 1\nend";
+    assert_eq!(rt; outcome(text, &mut rule, &mut table), (0, 33, 33));
+}
+
 /// A first text, another so many times, and a last one.
 fn repeated(
     heap: Global,

@@ -3,9 +3,9 @@
 
 use anyhow::anyhow;
 use lines::line::Line;
-use listing::list;
-use preparation::explain::fault_line;
-use preparation::fault::{PrepareFault, Stage};
+use listing::{MAX_LINE_BYTES, list};
+use preparation::explain::{Refusal, fault_line};
+use preparation::fault::PrepareFault;
 use preparation::prepare::prepare;
 use std::io;
 use std::io::{Read, Write};
@@ -16,22 +16,14 @@ use text::text_lines::line_text;
 /// How many lines each lent table has.
 const TABLE_LINES: usize = 2400;
 
-/// Room for the listing of any table: a line has at most 20 bytes.
-const LISTING_BYTES: usize = 48_000;
+/// Room for the listing of any table.
+const LISTING_BYTES: usize = MAX_LINE_BYTES * TABLE_LINES;
 
 /// Standard input, of which at most one byte past the limit is taken.
 fn read_text(rt: &HostRuntime) -> io::Result<Vec<u8>> {
     let mut text = Vec::new(rt.alloc());
     rt.stdin().take(MAX_TEXT as u64 + 1).read_to_end(&mut text)?;
     Ok(text)
-}
-
-fn stage_name(stage: Stage) -> &'static str {
-    match stage {
-        Stage::Read => "read",
-        Stage::Check => "check",
-        Stage::Balance => "balance",
-    }
 }
 
 /// Prints the lines of a table and its steps.
@@ -49,10 +41,7 @@ fn print_table(rt: &HostRuntime, table: &[Line], steps: u32) -> anyhow::Result<(
 
 /// Prints the refusal, and says on standard error what is wrong.
 fn print_refusal(rt: &HostRuntime, fault: &PrepareFault, text: &[u8]) -> anyhow::Result<()> {
-    let stage = stage_name(fault.stage());
-    let number = fault.number();
-    let place = fault.place();
-    println!(rt; "refused {stage} {number} {place}")?;
+    rt.println(Refusal(*fault))?;
     let Some(line) = fault_line(fault, text) else {
         eprintln!(rt; "prepare: {fault}.")?;
         return Ok(());
