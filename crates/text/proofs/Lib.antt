@@ -7,3 +7,4 @@ pub mod Filling
 pub mod Seeking
 pub mod Limits
 pub mod LinesOf
+pub mod RuleTexts
