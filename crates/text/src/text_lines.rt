@@ -1,5 +1,6 @@
 ghost use Rattle.std.specs.Prelude.{◌≡◌};
 ghost use Rattle.text.specs.Reading.{written_by};
+ghost use Rattle.text.specs.RuleTexts.{ReadFromText};
 ghost use Rattle.text.specs.TextLines.{LinesOf, held, line_start, numbered_line, text_lines};
 ghost use Rattle.text.specs.Tokens.{PartAt};
 
@@ -29,7 +30,8 @@ pub fn line_text(text: &[u8], number: usize) -> Option<&[u8]>
 
 /// The number, from 1, of the text line that table line `n`, from 0, was read from: of the text lines with a token, the one with `n` before it.
 pub fn text_line_of(text: &[u8], n: usize) -> Option<usize>
-    ensures { result ≡ written_by text.now n }
+    ensures value { result ≡ written_by text.now n }
+    ensures source { ReadFromText text.now n }
 {
     let mut reader = Reader::new(text);
     let mut number = 1;
