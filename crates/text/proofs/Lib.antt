@@ -6,3 +6,5 @@ pub mod LineByLine
 pub mod Filling
 pub mod Seeking
 pub mod Limits
+pub mod LinesOf
+pub mod RuleTexts

@@ -35,6 +35,9 @@ module _ (text : List ℕ) (at : ℕ) where
   from_next zero h = absurd (h refl)
   from_next (suc n) h = let e : n ≡ suc n - 1 = omega arith in from_suc n ∙ ap (line_from text (next_line text at)) e
 
+pub none_numbered : (text : List ℕ) (number : ℕ) → number ≡ 0 → None ≡ numbered_line text number
+none_numbered text number e = sym (ap (numbered_line text) e)
+
 pub from_start : (text : List ℕ) (number : ℕ) → (number ≡ 0 → ⊥) → line_from text 0 (number - 1) ≡ numbered_line text number
 from_start text zero h = absurd (h refl)
 from_start text (suc n) h = let e : suc n - 1 ≡ n = omega arith in ap (slice_get (text_lines text)) e

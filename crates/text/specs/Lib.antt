@@ -6,3 +6,4 @@ pub mod Tokens
 pub mod Meanings
 pub mod Operands
 pub mod Reading
+pub mod RuleTexts

@@ -1,7 +1,7 @@
 -- The lines of a text of bytes.
-use Rattle.std.specs.Prelude.{ℕ, zero, suc, ◌+◌, Bool, cond, List, [], ◌∷◌, drop, Some, None, Option, ◌==◌}
+use Rattle.std.specs.Prelude.{◌≡◌, ℕ, zero, suc, ◌+◌, ◌-◌, ◌<◌, Bool, cond, ◌⊎◌, List, [], ◌∷◌, ◌++◌, length, take, drop, Some, None, Option, ◌==◌, ◌≢◌}
 use Rattle.std.specs.Borrow.{Bor}
-use Rattle.std.specs.List.{slice_get}
+use Rattle.std.specs.List.{AllByRecursion, slice_get}
 
 -- Byte 10 ends a line.
 abbrev pub ends_line : ℕ → Bool
@@ -17,10 +17,30 @@ abbrev pub text_lines : List ℕ → List (List ℕ)
 text_lines [] = []
 text_lines (b ∷ bs) = cond (ends_line b) ([] ∷ text_lines bs) (in_front b (text_lines bs))
 
+-- A text is made of lines: byte 10 stands behind each, but may lack behind the last if that is not empty.
+abbrev pub MadeOf : List ℕ → List (List ℕ) → Type 0
+MadeOf text [] = text ≡ []
+MadeOf text (line ∷ lines) =
+    ((rest : List ℕ) × (text ≡ line ++ 10 ∷ rest) × MadeOf rest lines) ⊎ ((lines ≡ []) × (text ≡ line) × (0 < length line))
+
+-- The lines of a text: it is made of them, and none of them holds a byte 10.
+pub record LinesOf (text : List ℕ) (lines : List (List ℕ)) : Type 0 where
+  pub made : MadeOf text lines
+  pub endless : AllByRecursion (λ line. AllByRecursion (λ b. b ≢ 10) line) lines
+
 -- The line of a number, counted from 1.
 abbrev pub numbered_line : List ℕ → ℕ → Option (List ℕ)
 numbered_line text zero = None
 numbered_line text (suc n) = slice_get (text_lines text) n
+
+-- How many bytes lines have, each with its end.
+abbrev pub sizes : List (List ℕ) → ℕ
+sizes [] = 0
+sizes (line ∷ lines) = length line + 1 + sizes lines
+
+-- Where the line of a number begins: behind those before it.
+abbrev pub line_start : List ℕ → ℕ → ℕ
+line_start text number = sizes (take (number - 1) (text_lines text))
 
 -- How many bytes the first line has, without its end.
 abbrev pub line_length : List ℕ → ℕ

@@ -1,5 +1,5 @@
 -- The tokens of a line.
-use Rattle.std.specs.Prelude.{◌≡◌, ℕ, suc, ◌+◌, Bool, true, false, cond, not, ◌&&◌, ◌||◌, List, [], ◌∷◌, length, take, drop, ◌==◌}
+use Rattle.std.specs.Prelude.{◌≡◌, ℕ, suc, ◌+◌, Bool, true, false, cond, not, ◌&&◌, ◌||◌, List, [], ◌∷◌, length, take, drop, Some, None, Option, ◌==◌}
 use Rattle.text.specs.TextLines.{ends_line}
 
 -- Byte 32 stands between tokens.
@@ -27,6 +27,11 @@ pub record Piece : Type 0 where
 -- A piece is a part of a text if its bytes stand there at its place.
 abbrev pub PartOf : List ℕ → Piece → Type 0
 PartOf text p = p.bytes ≡ take (length p.bytes) (drop p.place text)
+
+-- The same of the bytes at a place, if there are any.
+abbrev pub PartAt : List ℕ → ℕ → Option (List ℕ) → Type 0
+PartAt text at None = Unit {0}
+PartAt text at (Some bs) = PartOf text (record { place = at; bytes = bs })
 
 -- The first piece longer by a byte in front of it.
 abbrev pub lengthened : ℕ → ℕ → List Piece → List Piece

@@ -1,6 +1,7 @@
 ghost use Rattle.std.specs.Prelude.{◌≡◌, ◌≤◌, length};
 ghost use Rattle.lines.specs.Sizes.{TableBelow};
 ghost use Rattle.text.specs.Reading.{reading, answer, filled};
+ghost use Rattle.text.specs.RuleTexts.{AcceptsExactly};
 
 use crate::fault::ReadFault;
 use crate::reader::Reader;
@@ -16,6 +17,7 @@ pub const MAX_LINES: usize = 2_400;
 pub fn read(text: &[u8], table: &mut [Line]) -> Result<usize, ReadFault>
     ensures answer { result ≡ answer (reading text.now (length table.old)) }
     ensures table { table.new ≡ filled (reading text.now (length table.old)) table.old }
+    ensures exact { AcceptsExactly text.now (length table.old) }
     ensures below { TableBelow 96 (reading text.now (length table.old)).lines }
     ensures few { length (reading text.now (length table.old)).lines ≤ 2400 }
 {

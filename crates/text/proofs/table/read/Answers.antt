@@ -3,6 +3,7 @@ use Rattle.std.proofs.lemmas.Result.{err_from_is_err_and}
 use Rattle.text.specs.Reading.{answer, filled}
 use Rattle.text.proofs.Filling.{progress_start, progress_at, progress_none, progress_some, open_at, ended_at, reading_is, ended_answer, ended_table, faulty_answer, faulty_table, full_answer, full_table, advances}
 use Rattle.text.proofs.Limits.{limited}
+use Rattle.text.proofs.RuleTexts.{accepts}
 use Rattle.text.proofs.table.read.Goals as goal
 use Rattle.text.proofs.table.read.Goals.{in-Some+else-count-room, in_default}
 
@@ -53,6 +54,7 @@ returns-in_err-line c =
     record {
       answer = q.1 ∙ ap Err q.2 ∙ faulty_answer text room old r _ _ _ p h _ value ∙ ap answer whole;
       table = faulty_table text room old r _ _ _ p h _ value ∙ ap (λ w. filled w old) whole;
+      exact = accepts text (length old);
       below = limits.below;
       few = limits.few;
     }
@@ -71,6 +73,7 @@ returns-then-count-room c =
     record {
       answer = full_answer text room old r _ _ _ p h _ value c.if-count-room.true ∙ ap answer whole;
       table = full_table text room old r _ _ _ p h _ value c.if-count-room.true ∙ ap (λ w. filled w old) whole;
+      exact = accepts text (length old);
       below = limits.below;
       few = limits.few;
     }
@@ -88,6 +91,7 @@ returns c =
     record {
       answer = ended_answer text room old r _ _ _ p h ∙ ap answer whole;
       table = ended_table text room old r _ _ _ p h ∙ ap (λ w. filled w old) whole;
+      exact = accepts text (length old);
       below = limits.below;
       few = limits.few;
     }

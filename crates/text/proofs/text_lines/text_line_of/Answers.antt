@@ -1,4 +1,5 @@
 use Rattle.std.proofs.Common.{sym, arith}
+use Rattle.text.proofs.RuleTexts.{read_from}
 use Rattle.text.proofs.Seeking.{open_at, none_left, search_found, search_none, search_some, search_at, advances}
 use Rattle.text.proofs.text_lines.text_line_of.Goals as goal
 use Rattle.text.proofs.text_lines.text_line_of.Goals.{then-is_some+else-before-eq0, else-is_some}
@@ -9,7 +10,10 @@ returns-then-before-eq0 c =
     let r = c.loop-reader.reader in
     let p = c.loop-reader.invariant in
     let h = open_at text c.args.n r _ _ p c.loop-reader-test.ensures in
-    search_found text c.args.n r _ _ p h _ _ c.next_token.ensures.token c.is_some.ensures (sym c.if-is_some.true) c.if-before-eq0.true
+    record {
+      value = search_found text c.args.n r _ _ p h _ _ c.next_token.ensures.token c.is_some.ensures (sym c.if-is_some.true) c.if-before-eq0.true;
+      source = read_from text c.args.n;
+    }
 
 pub loop-reader-smaller : goal.loop-reader-smaller
 loop-reader-smaller c =
@@ -35,4 +39,7 @@ loop-reader-preserved c =
     ]
 
 pub returns : goal.returns
-returns c = none_left c.args.text.now c.args.n c.loop-reader.reader _ _ c.loop-reader.invariant c.loop-reader-test.ensures
+returns c = record {
+  value = none_left c.args.text.now c.args.n c.loop-reader.reader _ _ c.loop-reader.invariant c.loop-reader-test.ensures;
+  source = read_from c.args.text.now c.args.n;
+}
