@@ -1,5 +1,5 @@
 -- What a reading leaves in front of the table.
-use Rattle.std.proofs.Common.{◌≡◌, ℕ, ◌-◌, ◌≤◌, List, length, take, drop, Some, None, Ok, Err, Option, sym, ap, ◌∙◌, subst, arith}
+use Rattle.std.proofs.Common.{◌≡◌, ℕ, ◌-◌, ◌≤◌, List, length, take, drop, Some, None, Ok, Err, Option, Result, sym, ap, ◌∙◌, subst, arith}
 use Rattle.std.proofs.lemmas.List.{length-append, take_at}
 use Rattle.lines.specs.Sizes.{TableBelow}
 use Rattle.lines.specs.declared.line.Line.{Line}
@@ -16,6 +16,7 @@ use Rattle.listing.specs.RoundTrip.{ReadsBack}
 use Rattle.listing.proofs.RoundTrip.{reads_back}
 use Rattle.text.specs.declared.fault.ReadFault.{ReadFault}
 use Rattle.text.specs.Reading.{Reading, answered, answer, filled}
+use Rattle.preparation.specs.declared.prepare.Prepared.{Prepared}
 use Rattle.preparation.specs.declared.fault.PrepareFault.{PrepareFault}
 use Rattle.preparation.specs.declared.fault.PrepareFault.TheVariants as fault
 use Rattle.preparation.specs.Preparing.{staged, balancing, readied, checked_after, read_after, Balanced}
@@ -49,6 +50,17 @@ balanced_is lines table n costs fine e w same sized =
 -- The balanced table reads back from its listing.
 pub table_back : (lines table : List Line) (costs : Costs) → Balanced lines table costs → ReadsBack table
 table_back lines table costs b = reads_back table b.sized (subst (λ l. length l ≤ 2400) (sym b.lines) (always lines b.checked).short)
+
+-- What preparing answers, by what reading answered.
+abbrev by_reading : Reading → ℕ → Result ℕ ReadFault → Result Prepared PrepareFault
+by_reading r room a = staged a fault.Read (λ k. staged (balancing r.lines room) (λ x. x) (λ p. Ok (record { rule_lines = k; balanced_lines = p.1; costs = p.0 })))
+
+module _ (r : Reading) (e : ReadFault) (refused : Err e ≡ answer r) where
+  pub refused_read : (room : ℕ) → Err (fault.Read e) ≡ readied r room
+  refused_read room = ap (by_reading r room) refused
+
+  pub refused_table : (table : List Line) → table ≡ read_after (answer r) r.lines table
+  refused_table table = ap (λ a. read_after a r.lines table) refused
 
 module _ (r : Reading) (n : ℕ) (before after : List Line) (ok : Ok n ≡ answer r) (left : after ≡ filled r before) (kept : length after ≡ length before) where
   pub read_count : n ≡ length r.lines

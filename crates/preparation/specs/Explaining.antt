@@ -1,5 +1,5 @@
 -- What is said of a refusal: which line of the text is at fault, and a sentence.
-use Rattle.std.specs.Prelude.{ℕ, List, Some, None, codes, Option}
+use Rattle.std.specs.Prelude.{◌≡◌, ℕ, ◌⊎◌, List, Some, None, codes, Option}
 use Rattle.balance.specs.declared.fault.BalanceFault.{BalanceFault}
 use Rattle.balance.specs.declared.fault.BalanceFault.TheVariants as balance
 use Rattle.rules.specs.declared.fault.CheckFault.{CheckFault}
@@ -7,6 +7,7 @@ use Rattle.rules.specs.declared.fault.CheckFault.TheVariants as check
 use Rattle.text.specs.declared.fault.ReadFault.{ReadFault}
 use Rattle.text.specs.declared.fault.ReadFault.TheVariants as read
 use Rattle.text.specs.Reading.{written_by}
+use Rattle.text.specs.TextLines.{numbered_line}
 use Rattle.preparation.specs.declared.fault.PrepareFault.{PrepareFault}
 use Rattle.preparation.specs.declared.fault.PrepareFault.TheVariants as fault
 
@@ -39,6 +40,17 @@ abbrev pub fault_line : List ℕ → PrepareFault → Option ℕ
 fault_line text (fault.Read f) = read_line f
 fault_line text (fault.Check f) = check_line text f
 fault_line text (fault.Balance f) = None
+
+-- A line of the text, whose number is known.
+pub record Found (text : List ℕ) (o : Option ℕ) : Type 0 where
+  pub number : ℕ
+  pub line : List ℕ
+  pub numbered : o ≡ Some number
+  pub there : numbered_line text number ≡ Some line
+
+-- A fault of preparing a text is in one line of it, which the text has, or is in no one line of any text.
+abbrev pub Explained : List ℕ → PrepareFault → Type 0
+Explained text f = ((t : List ℕ) → fault_line t f ≡ None) ⊎ Found text (fault_line text f)
 
 -- What is wrong with a text that is not read, in a sentence.
 abbrev pub read_sentence : ReadFault → List ℕ

@@ -1,8 +1,9 @@
-ghost use Rattle.std.specs.Prelude.{◌≡◌, length, take, IfOk};
+ghost use Rattle.std.specs.Prelude.{◌≡◌, length, take, IfOk, IfErr};
 ghost use Rattle.rules.specs.Checks.{Checked, checked};
 ghost use Rattle.balance.specs.Balancing.{Written};
 ghost use Rattle.listing.specs.RoundTrip.{ReadsBack};
 ghost use Rattle.text.specs.Reading.{reading, filled};
+ghost use Rattle.preparation.specs.Explaining.{Explained};
 ghost use Rattle.preparation.specs.Preparing.{balancing, checked_after, preparing, second_table, Balanced, Ready};
 
 use crate::fault::PrepareFault;
@@ -43,6 +44,7 @@ pub fn prepare(text: &[u8], rule: &mut [Line], table: &mut [Line]) -> Result<Pre
     // The listing of each table reads back as that table.
     ensures rule_back { IfOk result (λ p. ReadsBack (take p.rule_lines rule.new)) }
     ensures table_back { IfOk result (λ p. ReadsBack (take p.balanced_lines table.new)) }
+    ensures explained { IfErr result (λ fault. Explained text.now fault) }
 {
     let rule_lines = read(text, rule)?;
     let (costs, balanced_lines) = check_and_balance(&rule[0..rule_lines], table)?;

@@ -1,15 +1,13 @@
-use Rattle.std.proofs.Common.{◌≡◌, ◌+◌, List, [], ◌∷◌, ◌++◌, length, get_or, drop, None, sym, refl, ap, ◌∙◌, subst, append_assoc, arith}
+use Rattle.std.proofs.Common.{◌≡◌, ◌+◌, [], ◌++◌, get_or, drop, sym, ap, ◌∙◌, subst, append_assoc, arith}
 use Rattle.std.proofs.lemmas.List.{drop_more, at_drop_all, take_all, append-nil}
 use Rattle.std.proofs.ByRecursion.{All-more}
 use Rattle.std.specs.List.{AllByRecursion}
 use Rattle.lines.specs.Sizes.{OperationShort}
-use Rattle.lines.specs.declared.line.Line.{Line}
 use Rattle.lines.specs.declared.line.Line.TheVariants as line
 use Rattle.lines.proofs.Overwrites.{wrote_none, wrote_more, wrote_same}
-use Rattle.nesting.specs.declared.open.Open.{Open}
 use Rattle.nesting.specs.Nesting.{view}
 use Rattle.nesting.specs.Levels.{opens}
-use Rattle.rules.specs.Checks.{after, nesting_fault}
+use Rattle.rules.specs.Checks.{nesting_fault}
 use Rattle.nesting.proofs.Levels.{length-opens}
 use Rattle.nesting.proofs.Views.{length-view}
 use Rattle.balance.specs.Writing.{written, pass}

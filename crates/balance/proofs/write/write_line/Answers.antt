@@ -1,8 +1,8 @@
-use Rattle.std.proofs.Common.{◌≡◌, ℕ, ◌-◌, length, sym, ap, ◌∙◌, subst, arith}
+use Rattle.std.proofs.Common.{ℕ, ◌-◌, length, sym, ap, ◌∙◌, subst, arith}
 use Rattle.lines.specs.Sizes.{OperationShort}
 use Rattle.lines.proofs.Overwrites.{wrote_none, wrote_same}
-use Rattle.nesting.specs.Nesting.{view, below}
-use Rattle.nesting.specs.Levels.{opens, loop_level}
+use Rattle.nesting.specs.Nesting.{view}
+use Rattle.nesting.specs.Levels.{opens}
 use Rattle.nesting.proofs.Levels.{length-opens, level_within}
 use Rattle.balance.specs.Writing.{written, operating, choosing, turning, looping, breaking}
 use Rattle.balance.proofs.Clears.{length-below}
