@@ -1,7 +1,7 @@
 #!/usr/bin/env python3
 """Gives the repository's own definitions and lemmas the spelling of today's Rattle.
 
-Run once, at the top of a checkout, after /opt/rattle/port/port.py: words in snake case, a dash only where it joins two names, and `_lem` after a lemma that would have its function's name. Names of functions in src/, and names that Rattle makes (after a dot), stay.
+Run once, at the top of a checkout, after /opt/rattle/port/port.py (a second run would take `one_field`, now a definition, for the lemma that had the name before): words in snake case, a dash only where it joins two names, and `_lem` after a lemma that would have its function's name. Names of functions in src/, and names that Rattle makes (after a dot), stay.
 """
 import re
 import sys

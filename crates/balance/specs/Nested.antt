@@ -4,7 +4,7 @@ use Rattle.lines.specs.declared.line.Line.{Line}
 use Rattle.lines.specs.declared.line.Line.TheVariants as line
 use Rattle.nesting.specs.declared.open.Open.{Open}
 
--- An opening line is inside fewer than eight others, and an `else` inside one at least.
+-- An opening line is inside fewer than eight others, and an `else` inside one at least and eight at most.
 abbrev pub Nested : List Open → Line → Type 0
 Nested st (line.Operation o) = Unit {0}
 Nested st (line.If a) = length st < 8

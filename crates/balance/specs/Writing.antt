@@ -22,12 +22,13 @@ abbrev pub clearing : ℕ → ℕ → List Line
 clearing r zero = []
 clearing r (suc n) = doing (op.And (mask r) (mask r) (f 66)) ∷ clearing (r + 1) n
 
--- The end of the innermost open line, which is at level k.
+-- The end of an open line at level k.
 abbrev pub ending : Open → ℕ → List Line
 ending open_is.Then k = []
 ending open_is.Else k = []
 ending (open_is.Loop i n) k = line.End ∷ (doing (op.Copy i (saved (k + 1))) ∷ [])
 
+-- The end of the innermost open line, if there is one.
 abbrev pub ending_of : List Open → List Line
 ending_of [] = []
 ending_of (o ∷ st) = ending o (length st)

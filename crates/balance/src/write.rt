@@ -134,6 +134,7 @@ fn write_end(table: &mut [Line], at: usize, level: usize, part: Open) -> usize
     }
 }
 
+/// The end of the innermost open line; nothing where none is open.
 fn write_close<T: Copy>(table: &mut [Line], at: usize, stack: &Stack<Frame<T>>) -> usize
     ensures { Wrote table.old at (ending_of (opens (view stack.now.items stack.now.depth))) table.new result }
 {

@@ -34,6 +34,7 @@ fn per_turn(rt: &HostRuntime, start: Instant) -> anyhow::Result<u128> {
     Ok(start.elapsed(rt)?.as_nanos() / u128::from(TURNS))
 }
 
+/// Reads a text of many lines, which may be more than a rule may have.
 fn measure_read(rt: &HostRuntime, lines: usize, is_timed: bool) -> anyhow::Result<()> {
     let text = text_of(rt.alloc(), lines)?;
     let mut table = vec![in rt.alloc(); Line::End; TABLE_LINES]?;
@@ -54,6 +55,7 @@ fn measure_read(rt: &HostRuntime, lines: usize, is_timed: bool) -> anyhow::Resul
     Ok(())
 }
 
+/// Prepares and lists a rule.
 fn measure_prepare(rt: &HostRuntime, lines: usize, is_timed: bool) -> anyhow::Result<()> {
     let text = text_of(rt.alloc(), lines)?;
     let mut rule = vec![in rt.alloc(); Line::End; TABLE_LINES]?;
@@ -78,6 +80,7 @@ fn measure_prepare(rt: &HostRuntime, lines: usize, is_timed: bool) -> anyhow::Re
     Ok(())
 }
 
+/// Whether times are asked for.
 fn is_measuring(rt: &HostRuntime) -> anyhow::Result<bool> {
     for argument in env::args(rt)?.skip(1) {
         if argument.as_str() == "--measure" {

@@ -16,7 +16,7 @@ use fault::ListFault;
 use line::write_line;
 use lines::line::Line;
 
-/// The most bytes of a line with fields to f95, its end included: `word f95 4294967295` has as many.
+/// The most bytes of a line with fields to f95, its end included, as `list` promises: `word f95 4294967295` has as many.
 pub const MAX_LINE_BYTES: usize = 20;
 
 /// Writes the listing, as far as it fits, and answers how many bytes it has.

@@ -46,6 +46,7 @@ abbrev pub read_after : Result ℕ ReadFault → List Line → List Line → Lis
 read_after (Err e) lines table = table
 read_after (Ok n) lines table = checked_after (checked lines) lines table
 
+-- The second table after preparing.
 abbrev pub second_table : List ℕ → ℕ → List Line → List Line
 second_table text entries table = let r = reading text entries in read_after (answer r) r.lines table
 

@@ -3,8 +3,6 @@ use lines::line::Line;
 use preparation::explain::{Refusal, fault_line};
 use preparation::fault::{PrepareFault, Stage};
 use preparation::prepare::prepare;
-use std::alloc::Global;
-use std::process::Abort;
 use std::test::Fail;
 use text::text_lines::line_text;
 
@@ -77,23 +75,18 @@ const CASES: [Case; 8] = [
     },
 ];
 
-fn check_case(rt: &impl Abort, heap: Global, case: &Case) -> Result<(), Fail> {
-    let fault = refusal(case.text).ok_or("the text is not refused")?;
-    let refusal = Refusal(fault);
-    assert!(rt; format!(in heap; "{refusal}")?.as_str() == case.refusal);
-    assert!(rt; format!(in heap; "{fault}")?.as_str() == case.sentence);
-    let number = fault_line(&fault, case.text);
-    assert_eq!(rt; number, case.line.map(|line| line.0));
-    if let (Some(number), Some(line)) = (number, case.line) {
-        assert!(rt; line_text(case.text, number).ok_or("no such line")? == line.1);
-    }
-    Ok(())
-}
-
 #[test]
 fn refusals_are_explained(rt: HostRuntime) -> Result<(), Fail> {
     for case in &CASES {
-        check_case(&rt, rt.alloc(), case)?;
+        let fault = refusal(case.text).ok_or("the text is not refused")?;
+        let refusal = Refusal(fault);
+        assert!(rt; format!(in rt.alloc(); "{refusal}")?.as_str() == case.refusal);
+        assert!(rt; format!(in rt.alloc(); "{fault}")?.as_str() == case.sentence);
+        let number = fault_line(&fault, case.text);
+        assert_eq!(rt; number, case.line.map(|line| line.0));
+        if let (Some(number), Some(line)) = (number, case.line) {
+            assert!(rt; line_text(case.text, number).ok_or("no such line")? == line.1);
+        }
     }
     Ok(())
 }

@@ -16,7 +16,7 @@ use text::text_lines::line_text;
 /// How many lines each lent table has.
 const TABLE_LINES: usize = 2400;
 
-/// Room for the listing of any table.
+/// Room for the listing of any balanced table.
 const LISTING_BYTES: usize = MAX_LINE_BYTES * TABLE_LINES;
 
 /// Standard input, of which at most one byte past the limit is taken.

@@ -28,8 +28,8 @@ end_fault at (open_is.Then ∷ st) = Some (fault.MissingElse at)
 end_fault at (open_is.Else ∷ st) = None
 end_fault at (open_is.Loop i n ∷ st) = None
 
--- The first condition that line `at` meets, inside the open lines st, the innermost first: its fields are of the card, it fits what is open,
--- it opens at a level below 8, a `break` is inside a loop, and a loop has at most 1,000 rounds.
+-- The first of these that line `at` breaks, inside the open lines st, the innermost first: a rule has no `turn`; its fields are of the card; `else`
+-- and `end` fit what is open; a line opens at a level below 8; a `break` is inside a loop; a loop has at most 1,000 rounds.
 abbrev pub line_fault : ℕ → List Open → Line → Option CheckFault
 line_fault at st (line.Operation o) = unless (within 64 o) (fault.FieldOffCard at)
 line_fault at st (line.If a) = first (unless (under 64 a) (fault.FieldOffCard at)) (unless (nat_lt (length st) 8) (fault.TooDeep at))

@@ -34,12 +34,13 @@ Walk = List (Frame Sums) × Costs
 abbrev pub opening : ℕ → Open → Walk → Result Walk CheckFault
 opening at o w = cond (nat_lt (length w.0) 8) (Ok (record { part = o; kept = record { before = w.1; first = free } } ∷ w.0, free)) (Err (fault.TooDeep at))
 
--- The first part of the innermost open line is over, which is to be an `if`.
+-- The first part of an open line is over, which is to be an `if`.
 abbrev pub else_of : ℕ → Open → Sums → List (Frame Sums) → Costs → Result Walk CheckFault
 else_of at open_is.Then k st c = Ok (record { part = open_is.Else; kept = record { before = k.before; first = c } } ∷ st, free)
 else_of at open_is.Else k st c = Err (fault.SecondElse at)
 else_of at (open_is.Loop i n) k st c = Err (fault.StrayElse at)
 
+-- `else` ends the first part of the innermost open line, if one is open.
 abbrev pub halving : ℕ → Walk → Result Walk CheckFault
 halving at ([], c) = Err (fault.StrayElse at)
 halving at (f ∷ st, c) = else_of at f.part f.kept st c
@@ -52,12 +53,13 @@ if_costs k c = plus (plus k.before (1 + max k.first.plain c.plain) (5 + k.first.
 abbrev pub loop_costs : ℕ → Sums → Costs → Costs
 loop_costs n k c = plus (plus k.before 1 4) (capped (n * c.plain)) (capped (n * capped (c.balanced + 1)))
 
--- The innermost open line ends.
+-- An open line ends, whose last part has the costs c.
 abbrev pub end_of : ℕ → Open → Sums → List (Frame Sums) → Costs → Result Walk CheckFault
 end_of at open_is.Then k st c = Err (fault.MissingElse at)
 end_of at open_is.Else k st c = Ok (st, if_costs k c)
 end_of at (open_is.Loop i n) k st c = Ok (st, loop_costs n k c)
 
+-- `end` ends the innermost open line, if one is open.
 abbrev pub closing : ℕ → Walk → Result Walk CheckFault
 closing at ([], c) = Err (fault.StrayEnd at)
 closing at (f ∷ st, c) = end_of at f.part f.kept st c

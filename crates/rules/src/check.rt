@@ -56,6 +56,7 @@ impl Costs {
     }
 }
 
+/// An `if` or a loop opens: what was summed up before it is kept until its end.
 fn open_line(
     stack: &mut Stack<Frame<Sums>>,
     costs: Costs,
@@ -75,6 +76,7 @@ fn open_line(
     }
 }
 
+/// `else`: the costs so far are those of the first part.
 fn halve_line(stack: &mut Stack<Frame<Sums>>, costs: Costs, at: usize) -> Result<Costs, CheckFault>
     ensures { halving at (view stack.old.items stack.old.depth, costs) ≡ standing result (view stack.new.items stack.new.depth) }
 {
@@ -118,6 +120,7 @@ fn loop_costs(rounds: u32, sums: Sums, body: Costs) -> Costs
     )
 }
 
+/// `end`: the costs of the innermost open line are added to those before it.
 fn close_line(stack: &mut Stack<Frame<Sums>>, costs: Costs, at: usize) -> Result<Costs, CheckFault>
     ensures { closing at (view stack.old.items stack.old.depth, costs) ≡ standing result (view stack.new.items stack.new.depth) }
 {
@@ -131,6 +134,7 @@ fn close_line(stack: &mut Stack<Frame<Sums>>, costs: Costs, at: usize) -> Result
     }
 }
 
+/// The costs with those of a `break`, which has to be inside a loop.
 fn break_costs(stack: &Stack<Frame<Sums>>, costs: Costs, at: usize) -> Result<Costs, CheckFault>
     ensures { breaking at (view stack.now.items stack.now.depth, costs) ≡ standing result (view stack.now.items stack.now.depth) }
 {
@@ -143,6 +147,7 @@ fn break_costs(stack: &Stack<Frame<Sums>>, costs: Costs, at: usize) -> Result<Co
     }
 }
 
+/// The costs after one more line, or what is wrong with the line.
 fn check_line(
     stack: &mut Stack<Frame<Sums>>,
     costs: Costs,
@@ -184,6 +189,7 @@ fn check_line(
     }
 }
 
+/// The costs of the whole rule, which has to be closed and not to take too many steps.
 fn finish(stack: &Stack<Frame<Sums>>, costs: Costs, count: usize) -> Result<Costs, CheckFault>
     ensures { result ≡ finish count (view stack.now.items stack.now.depth, costs) }
 {
@@ -196,6 +202,7 @@ fn finish(stack: &Stack<Frame<Sums>>, costs: Costs, count: usize) -> Result<Cost
     }
 }
 
+/// The check of a table of any length.
 fn check_lines(lines: &[Line]) -> Result<Costs, CheckFault>
     ensures { result ≡ pass 0 ([], start) lines.now }
 {

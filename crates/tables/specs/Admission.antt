@@ -28,8 +28,8 @@ blocks (line.Loop i n ∷ l) = blocks l
 abbrev pub lines_of : List Line → Lines
 lines_of table = front (blocks table)
 
--- The first condition that line `at` meets, where d turns are open: it is no line of rules alone, its fields are those of a table, f0 to f95,
--- an `end` has a turn to close, a turn is inside fewer than eight others, and it has at most 1,000 rounds.
+-- The first of these that line `at` breaks, where d turns are open: it is no line of rules alone; its fields are those of a table, f0 to f95; an
+-- `end` has a turn to close; a turn is inside fewer than eight others, and has at most 1,000 rounds.
 abbrev pub line_fault : ℕ → ℕ → Line → Option AdmissionFault
 line_fault at d (line.Operation o) = unless (within 96 o) (fault.FieldOffTable at)
 line_fault at d (line.Turn i n) =
@@ -68,13 +68,13 @@ first_fault table =
 pub record Admitted (table : List Line) : Type 0 where
   pub faultless : first_fault table ≡ None
 
--- Balanced lines as admission wants them, where d turns are open around them.
+-- Balanced lines as admission wants them, where d turns are open around them: fields f0 to f95, at most eight turns deep, at most 1,000 rounds a turn.
 abbrev pub Runs : Lines → ℕ → Type 0
 Runs stop d = Unit {0}
 Runs (does o l) d = (within 96 o ≡ true) × Runs l d
 Runs (turn i n b l) d = (under 96 i ≡ true) × (d < 8) × (n < 1001) × Runs b (d + 1) × Runs l d
 
--- What an admitted table is: the table of balanced lines, and of no others, with fields f0 to f95, at most eight turns deep and at most 65,535 steps.
+-- What an admitted table is: the table of balanced lines, and of no others, which are as admission wants them; at most 2,400 lines and 65,535 steps.
 pub record IsTable (table : List Line) : Type 0 where
   pub tree : table ≡ flat (lines_of table) []
   pub only : (l : Lines) → table ≡ flat l [] → l ≡ lines_of table

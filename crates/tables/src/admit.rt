@@ -33,6 +33,7 @@ impl OpenTurn {
     }
 }
 
+/// A turn opens: the steps before it are kept until its end.
 fn open_turn(
     stack: &mut Stack<OpenTurn>,
     steps: u32,
@@ -54,6 +55,7 @@ fn open_turn(
     Ok(0)
 }
 
+/// `end`: the steps of the innermost turn are added to those before it.
 fn close_turn(stack: &mut Stack<OpenTurn>, steps: u32, at: usize) -> Result<u32, AdmissionFault>
     ensures { closing at (view stack.old.items stack.old.depth, steps) ≡ standing result (view stack.new.items stack.new.depth) }
 {
@@ -63,6 +65,7 @@ fn close_turn(stack: &mut Stack<OpenTurn>, steps: u32, at: usize) -> Result<u32,
     }
 }
 
+/// The steps after one more line, or what is wrong with the line.
 fn admit_line(
     stack: &mut Stack<OpenTurn>,
     steps: u32,
@@ -94,6 +97,7 @@ fn admit_line(
     }
 }
 
+/// The steps of the whole table, which has to be closed and not to take too many.
 fn finish(stack: &Stack<OpenTurn>, steps: u32, lines: usize) -> Result<u32, AdmissionFault>
     ensures { result ≡ finish lines (view stack.now.items stack.now.depth, steps) }
 {
@@ -106,6 +110,7 @@ fn finish(stack: &Stack<OpenTurn>, steps: u32, lines: usize) -> Result<u32, Admi
     }
 }
 
+/// Admission of a table of any length.
 fn count_steps(table: &[Line]) -> Result<u32, AdmissionFault>
     ensures { result ≡ count 0 ([], 0) table.now }
 {

@@ -1,4 +1,4 @@
-use Rattle.std.proofs.Common.{List, length, take, sym, ap, ◌∙◌, subst}
+use Rattle.std.proofs.Common.{List, length, take, sym, ap, ◌∙◌, subst, arith}
 use Rattle.std.proofs.lemmas.Result.{err_from_is_err_and}
 use Rattle.lines.specs.declared.line.Line.{Line}
 use Rattle.rules.specs.Checks.{Checked}
@@ -13,7 +13,8 @@ use Rattle.preparation.proofs.prepare.prepare.Goals as goal
 pub slice_bounds-check_and_balance-end : goal.slice_bounds-check_and_balance-end
 slice_bounds-check_and_balance-end c =
     let r = reading c.args.text.now (length c.args.rule.now) in
-    read_within r c.in_ok-rule_lines.rule_lines c.args.rule.now c.read.new.table c.in_ok-rule_lines.ensures.answer c.read.ensures.table c.read.auto.table
+    let within = read_within r c.in_ok-rule_lines.rule_lines c.args.rule.now c.read.new.table c.in_ok-rule_lines.ensures.answer c.read.ensures.table c.read.auto.table in
+    omega (arith, within)
 
 pub returns-in_err-rule_lines : goal.returns-in_err-rule_lines
 returns-in_err-rule_lines c =
