@@ -35,7 +35,7 @@ fn write_lines(table: &[Line], buffer: &mut [u8]) -> usize
 pub fn list(table: &[Line], buffer: &mut [u8]) -> Result<usize, ListFault>
     ensures answer { result ≡ listed table.now (length buffer.old) }
     ensures bytes { buffer.new ≡ buffer_after table.now buffer.old }
-    ensures short { TableBelow 96 table.now → length (listing table.now) ≤ 20 * length table.now }
+    ensures short { TableBelow 96 table.now → length (listing table.now) ≤ MAX_LINE_BYTES * length table.now }
     ensures roundtrip { TableBelow 96 table.now → length table.now ≤ 2400 → ReadsBack table.now }
 {
     // Into an empty buffer the bytes are only counted.

@@ -41,14 +41,14 @@ fault_line text (fault.Read f) = read_line f
 fault_line text (fault.Check f) = check_line text f
 fault_line text (fault.Balance f) = None
 
--- A line of the text, whose number is known.
+-- A number is told, and the text has the line of that number.
 pub record Found (text : List ℕ) (o : Option ℕ) : Type 0 where
   pub number : ℕ
   pub line : List ℕ
   pub numbered : o ≡ Some number
   pub there : numbered_line text number ≡ Some line
 
--- A fault of preparing a text is in one line of it, which the text has, or is in no one line of any text.
+-- A refusal is explained: its fault is in no one line, whatever the text, or it tells a line that this text has.
 abbrev pub Explained : List ℕ → PrepareFault → Type 0
 Explained text f = ((t : List ℕ) → fault_line t f ≡ None) ⊎ Found text (fault_line text f)
 
