@@ -1,5 +1,4 @@
 pub mod Clears
-pub mod Advances
 pub mod Passed
 pub mod Balances
 pub mod Limits

@@ -1,5 +1,5 @@
--- The numbers and places of the faults of balancing.
-use Rattle.std.specs.Prelude.{ℕ}
+-- The numbers, places and sentences of the faults of balancing.
+use Rattle.std.specs.Prelude.{ℕ, List, codes}
 use Rattle.balance.specs.declared.fault.BalanceFault.{BalanceFault}
 use Rattle.balance.specs.declared.fault.BalanceFault.TheVariants.{TableTooShort}
 
@@ -10,3 +10,7 @@ balance_number TableTooShort = 20
 -- The place of a fault of balancing.
 abbrev pub balance_place : BalanceFault → ℕ
 balance_place TableTooShort = 0
+
+-- Why a rule is not balanced, in a sentence.
+abbrev pub balance_sentence : BalanceFault → List ℕ
+balance_sentence TableTooShort = codes "the table has no room for the balanced lines"

@@ -3,95 +3,76 @@
 #![tactic(auto)]
 
 use lines::line::Line;
-use listing::list;
+use listing::{MAX_LINE_BYTES, list};
 use preparation::prepare::prepare;
 use std::alloc::Global;
 use std::env;
 use std::time::Instant;
+use tables::admit::MAX_TABLE_LINES;
 use text::table::read;
 
 /// How often each call is timed.
 const TURNS: u64 = 200;
 
-const TABLE_LINES: usize = 2400;
-
-const LISTING_BYTES: usize = 48_000;
+const LISTING_BYTES: usize = MAX_LINE_BYTES * MAX_TABLE_LINES;
 
 /// A text line of 32 bytes.
 const LINE: &[u8; 32] = b"add f10 f20 f30 ; some comment.\n";
 
 /// A text of so many such lines.
 fn text_of(heap: Global, lines: usize) -> anyhow::Result<Vec<u8>> {
-    let mut text = Vec::new(heap);
-    for _ in 0..lines {
-        text.extend_from_slice(LINE)?;
-    }
-    Ok(text)
+    Ok(LINE.repeat(heap, lines)?)
 }
 
-/// The time of so many turns in nanoseconds a turn.
-fn per_turn(rt: &HostRuntime, start: Instant) -> anyhow::Result<u128> {
-    Ok(start.elapsed(rt)?.as_nanos() / u128::from(TURNS))
+/// Does the work so many times, and answers what it answered last and the nanoseconds of a turn.
+fn timed<F: FnMut() -> usize + Drop>(rt: &HostRuntime, mut work: F) -> anyhow::Result<(usize, u128)>
+    requires { F.IsAlwaysCallable work }
+{
+    let start = Instant::now(rt)?;
+    let mut answer = 0;
+    for _ in 0..TURNS {
+        answer = work();
+    }
+    Ok((answer, start.elapsed(rt)?.as_nanos() / u128::from(TURNS)))
+}
+
+/// Ends a line, with the nanoseconds if there are any to print.
+fn end_line(rt: &HostRuntime, nanos: Option<u128>) -> anyhow::Result<()> {
+    match nanos {
+        Some(nanos) => println!(rt; ": {nanos} ns")?,
+        None => println!(rt; "")?,
+    }
+    Ok(())
 }
 
 /// Reads a text of many lines, which may be more than a rule may have.
 fn measure_read(rt: &HostRuntime, lines: usize, is_timed: bool) -> anyhow::Result<()> {
     let text = text_of(rt.alloc(), lines)?;
-    let mut table = vec![in rt.alloc(); Line::End; TABLE_LINES]?;
-    let start = Instant::now(rt)?;
-    let mut read_lines = 0;
-    for _ in 0..TURNS {
-        if let Ok(count) = read(&text, &mut table) {
-            read_lines = count;
-        }
-    }
+    let mut table = vec![in rt.alloc(); Line::End; MAX_TABLE_LINES]?;
+    let (count, nanos) = timed(rt, || read(&text, &mut table).unwrap_or(0))?;
     let bytes = text.len();
-    print!(rt; "read {bytes} bytes, {read_lines} lines")?;
-    if is_timed {
-        let nanos = per_turn(rt, start)?;
-        print!(rt; ": {nanos} ns")?;
-    }
-    println!(rt; "")?;
-    Ok(())
+    print!(rt; "read {bytes} bytes, {count} lines")?;
+    end_line(rt, is_timed.then_some(nanos))
 }
 
 /// Prepares and lists a rule.
 fn measure_prepare(rt: &HostRuntime, lines: usize, is_timed: bool) -> anyhow::Result<()> {
     let text = text_of(rt.alloc(), lines)?;
-    let mut rule = vec![in rt.alloc(); Line::End; TABLE_LINES]?;
-    let mut table = vec![in rt.alloc(); Line::End; TABLE_LINES]?;
+    let mut rule = vec![in rt.alloc(); Line::End; MAX_TABLE_LINES]?;
+    let mut table = vec![in rt.alloc(); Line::End; MAX_TABLE_LINES]?;
     let mut buffer = vec![in rt.alloc(); 0u8; LISTING_BYTES]?;
-    let start = Instant::now(rt)?;
-    let mut listed = 0;
-    for _ in 0..TURNS {
-        if let Ok(prepared) = prepare(&text, &mut rule, &mut table) {
-            let count = prepared.balanced_lines;
-            if let Ok(length) = list(&table[0..count], &mut buffer) {
-                listed = length;
-            }
-        }
-    }
+    let (listed, nanos) = timed(rt, || match prepare(&text, &mut rule, &mut table) {
+        Ok(prepared) => list(&table[..prepared.balanced_lines], &mut buffer).unwrap_or(0),
+        Err(_) => 0,
+    })?;
     print!(rt; "prepare and list {lines} lines, {listed} bytes listed")?;
-    if is_timed {
-        let nanos = per_turn(rt, start)?;
-        print!(rt; ": {nanos} ns")?;
-    }
-    println!(rt; "")?;
-    Ok(())
-}
-
-/// Whether times are asked for.
-fn is_measuring(rt: &HostRuntime) -> anyhow::Result<bool> {
-    for argument in env::args(rt)?.skip(1) {
-        if argument.as_str() == "--measure" {
-            return Ok(true);
-        }
-    }
-    Ok(false)
+    end_line(rt, is_timed.then_some(nanos))
 }
 
 fn main(rt: HostRuntime) -> anyhow::Result<()> {
-    let is_timed = is_measuring(&rt)?;
+    let is_timed = env::args(&rt)?
+        .skip(1)
+        .any(|argument| argument.as_str() == "--measure");
     for lines in [256, 512, 1024, 2048] {
         measure_read(&rt, lines, is_timed)?;
     }

@@ -4,4 +4,4 @@
 pub mod field;
 pub mod line;
 pub mod operation;
-pub mod write;
+pub mod writer;

@@ -2,7 +2,7 @@ use crate::field::Field;
 use crate::operation::Operation;
 
 /// A line of a table. A rule has no `turn`; a balanced table has operations, `turn` and `end` alone.
-#[derive(Clone, Copy, PartialEq, Debug)]
+#[derive(Clone, Copy, PartialEq, Eq, Debug)]
 pub enum Line {
     /// Closes the innermost open `if`, `loop` or `turn`.
     End,

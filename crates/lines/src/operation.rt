@@ -1,11 +1,12 @@
-ghost use Rattle.std.specs.Prelude.{◌≡◌, Bool};
+ghost use Rattle.std.specs.Prelude.{◌≡◌};
 ghost use Rattle.lines.specs.Operations.{destination, into, within, immediate};
 ghost use Rattle.lines.specs.Sizes.{Short};
 
 use crate::field::Field;
 
 /// An operation line: what is computed from which fields, and the field that it goes to, always the first.
-#[derive(Clone, Copy, PartialEq, Debug)]
+// Eleven flat cases: with an operator in one of them, a loop that does operations took half as long again (docs/DECISIONS.md).
+#[derive(Clone, Copy, PartialEq, Eq, Debug)]
 pub enum Operation {
     /// The field becomes the number.
     Word(Field, u32),
@@ -30,17 +31,17 @@ impl Operation {
         ensures { result ≡ destination self.now }
     {
         match self {
-            Operation::Word(d, _) => *d,
-            Operation::Copy(d, _) => *d,
-            Operation::Not(d, _) => *d,
-            Operation::Add(d, _, _) => *d,
-            Operation::Sub(d, _, _) => *d,
-            Operation::Mul(d, _, _) => *d,
-            Operation::And(d, _, _) => *d,
-            Operation::Or(d, _, _) => *d,
-            Operation::Xor(d, _, _) => *d,
-            Operation::Same(d, _, _) => *d,
-            Operation::Less(d, _, _) => *d,
+            Operation::Word(d, _)
+            | Operation::Copy(d, _)
+            | Operation::Not(d, _)
+            | Operation::Add(d, _, _)
+            | Operation::Sub(d, _, _)
+            | Operation::Mul(d, _, _)
+            | Operation::And(d, _, _)
+            | Operation::Or(d, _, _)
+            | Operation::Xor(d, _, _)
+            | Operation::Same(d, _, _)
+            | Operation::Less(d, _, _) => *d,
         }
     }
 
@@ -70,16 +71,15 @@ impl Operation {
     {
         match self {
             Operation::Word(d, _) => d.0 < count,
-            Operation::Copy(d, a) => d.0 < count && a.0 < count,
-            Operation::Not(d, a) => d.0 < count && a.0 < count,
-            Operation::Add(d, a, b) => d.0 < count && a.0 < count && b.0 < count,
-            Operation::Sub(d, a, b) => d.0 < count && a.0 < count && b.0 < count,
-            Operation::Mul(d, a, b) => d.0 < count && a.0 < count && b.0 < count,
-            Operation::And(d, a, b) => d.0 < count && a.0 < count && b.0 < count,
-            Operation::Or(d, a, b) => d.0 < count && a.0 < count && b.0 < count,
-            Operation::Xor(d, a, b) => d.0 < count && a.0 < count && b.0 < count,
-            Operation::Same(d, a, b) => d.0 < count && a.0 < count && b.0 < count,
-            Operation::Less(d, a, b) => d.0 < count && a.0 < count && b.0 < count,
+            Operation::Copy(d, a) | Operation::Not(d, a) => d.0 < count && a.0 < count,
+            Operation::Add(d, a, b)
+            | Operation::Sub(d, a, b)
+            | Operation::Mul(d, a, b)
+            | Operation::And(d, a, b)
+            | Operation::Or(d, a, b)
+            | Operation::Xor(d, a, b)
+            | Operation::Same(d, a, b)
+            | Operation::Less(d, a, b) => d.0 < count && a.0 < count && b.0 < count,
         }
     }
 }

@@ -1,8 +1,5 @@
-pub mod Numbers
-pub mod Words
-pub mod Tables
+pub mod Writing
 pub mod Numerals
 pub mod Alphabet
 pub mod Readers
-pub mod ReadBack
 pub mod RoundTrip

@@ -50,5 +50,4 @@ line_bytes l = spaced (line_words l) ++ 10 ∷ []
 
 -- The listing of a table: the bytes of its lines, one after the other.
 abbrev pub listing : List Line → List ℕ
-listing [] = []
-listing (l ∷ ls) = line_bytes l ++ listing ls
+listing table = flat_map line_bytes table

@@ -1,8 +1,8 @@
 //! Tables of lines written out as text: a text line for each line, its words with single spaces between them.
 #![tactic(auto)]
 
-ghost use Rattle.std.specs.Prelude.{◌≡◌, ◌*◌, ◌≤◌, length};
-ghost use Rattle.lines.specs.Overwrites.{Wrote};
+ghost use Rattle.std.specs.Prelude.{◌≡◌, ◌-◌, ◌*◌, ◌^◌, ◌≤◌, length, min, IfOk};
+ghost use Rattle.lines.specs.Overwrites.{overwrite};
 ghost use Rattle.lines.specs.Sizes.{TableBelow};
 ghost use Rattle.listing.specs.Listing.{listing};
 ghost use Rattle.listing.specs.Answers.{listed, buffer_after};
@@ -10,35 +10,41 @@ ghost use Rattle.listing.specs.RoundTrip.{ReadsBack};
 
 pub mod fault;
 mod line;
-mod number;
 
 use fault::ListFault;
 use line::write_line;
 use lines::line::Line;
+use lines::writer::Writer;
 
 /// The most bytes of a line with fields to f95, its end included, as `list` promises: `word f95 4294967295` has as many.
 pub const MAX_LINE_BYTES: usize = 20;
 
-/// Writes the listing, as far as it fits, and answers how many bytes it has.
+/// Writes what fits of the listing, and answers how many bytes it has.
+// `balance` has its like: one function for both would need a trait and two types, and is no plainer.
+#[tactic(auto, using(lines::proofs::Overwrites::wrote_none))]
 fn write_lines(table: &[Line], buffer: &mut [u8]) -> usize
-    ensures { Wrote buffer.old 0 (listing table.now) buffer.new result }
+    ensures bytes { buffer.new ≡ overwrite buffer.old 0 (listing table.now) }
+    ensures count { result ≡ min (length (listing table.now)) (2 ^ 64 - 1) }
 {
-    let mut next = 0;
+    let mut out = Writer::new(buffer);
     for line in table {
-        next = write_line(buffer, next, line);
+        write_line(&mut out, line);
     }
-    next
+    out.count()
 }
 
 /// Writes the listing of a table into the buffer, and answers how many bytes it has. A buffer too short for the whole of it stays as it was.
 /// A table within the limits of a text is what reading the listing gives.
+// A count is answered, since a part of the buffer would keep the whole lent.
+#[tactic(auto, using(crate::proofs::RoundTrip::listing_short, crate::proofs::RoundTrip::reads_back, crate::proofs::Writing::fit_buffer))]
 pub fn list(table: &[Line], buffer: &mut [u8]) -> Result<usize, ListFault>
     ensures answer { result ≡ listed table.now (length buffer.old) }
     ensures bytes { buffer.new ≡ buffer_after table.now buffer.old }
+    ensures within { IfOk result (λ n. n ≤ length buffer.old) }
     ensures short { TableBelow 96 table.now → length (listing table.now) ≤ MAX_LINE_BYTES * length table.now }
     ensures roundtrip { TableBelow 96 table.now → length table.now ≤ 2400 → ReadsBack table.now }
 {
-    // Into an empty buffer the bytes are only counted.
+    // Nothing may be written where there is too little room: into an empty buffer the bytes are only counted.
     let needed = write_lines(table, &mut []);
     if needed > buffer.len() {
         return Err(ListFault::BufferTooShort);
@@ -49,6 +55,7 @@ pub fn list(table: &[Line], buffer: &mut [u8]) -> Result<usize, ListFault>
 #[cfg(test)]
 mod tests {
     use super::*;
+    use faults::Fault;
     use lines::field::Field;
     use lines::operation::Operation;
 

@@ -1,5 +1,4 @@
 pub mod Views
 pub mod Levels
 pub mod Caps
-pub mod Firsts
-pub mod Blocks
+pub mod Passes

@@ -3,3 +3,4 @@ pub mod Levels
 pub mod Capped
 pub mod Conditions
 pub mod Blocks
+pub mod Passes

@@ -1,9 +1,5 @@
 -- What is open around a line, kept as a stack.
-use Rattle.std.specs.Prelude.{ℕ, List, [], ◌∷◌, reverse, take, Some, None, Option}
-
--- What a stack holds, the topmost first: its first `depth` items, the last one on top.
-abbrev pub view : {T : Type 0} → List T → ℕ → List T
-view items depth = reverse (take depth items)
+use Rattle.std.specs.Prelude.{List, [], ◌∷◌, Some, None, Option}
 
 -- The topmost, if there is one.
 abbrev pub top : {T : Type 0} → List T → Option T

@@ -4,4 +4,5 @@
 pub mod capped;
 pub mod limits;
 pub mod open;
+pub mod pass;
 pub mod stack;

@@ -1,6 +1,5 @@
-ghost use Rattle.std.specs.Prelude.{◌≡◌, map};
-ghost use Rattle.nesting.specs.Nesting.{view};
-ghost use Rattle.nesting.specs.Levels.{loop_level, loops, opens};
+ghost use Rattle.std.specs.Prelude.{◌≡◌, ◌≤◌, length, IfSome};
+ghost use Rattle.nesting.specs.Levels.{is_loop, loop_body, opens};
 
 use crate::stack::Stack;
 use lines::field::Field;
@@ -23,29 +22,23 @@ pub struct Frame<T> {
     pub kept: T,
 }
 
-/// Whether there is a frame, and it is a loop's.
-fn is_loop<T: Copy>(frame: Option<Frame<T>>) -> bool
-    ensures { result ≡ loops frame }
-{
-    match frame {
-        Some(frame) => match frame.part {
-            Open::Then => false,
-            Open::Else => false,
-            Open::Loop(_, _) => true,
-        },
-        None => false,
+impl Open {
+    /// Whether it is a loop.
+    fn is_loop(&self) -> bool
+        ensures { result ≡ is_loop self.now }
+    {
+        matches!(self, Open::Loop(_, _))
     }
 }
 
-/// The level of the innermost loop's body, or 0 where no loop is open.
-pub fn loop_level<T: Copy>(stack: &Stack<Frame<T>>) -> usize
-    ensures { result ≡ loop_level (opens (view stack.now.items stack.now.depth)) }
-{
-    let depth = stack.len();
-    for i in 0..depth {
-        if is_loop(stack.peek(i)) {
-            return depth - i;
-        }
+impl<T: Copy> Stack<Frame<T>> {
+    /// The level of the innermost loop's body, if a loop is open.
+    pub fn loop_level(&self) -> Option<usize>
+        ensures value { result ≡ loop_body (opens self.now) }
+        ensures within { IfSome result (λ level. level ≤ length self.now) }
+    {
+        let mut outwards = self.as_slice().iter().rev();
+        let around = outwards.position(|frame| frame.part.is_loop())?;
+        Some(self.len() - around)
     }
-    0
 }

@@ -1,22 +1,33 @@
-ghost use Rattle.std.specs.Prelude.{◌≡◌, ◌<◌, ◌≤◌, [], ◌∷◌, length, drop, if◌then◌else◌, nat_lt};
-ghost use Rattle.nesting.specs.Nesting.{view, top, below};
+ghost use Rattle.std.specs.Prelude.{◌≡◌, ◌<◌, ◌≤◌, [], ◌∷◌, List, length, take, drop, reverse, if◌then◌else◌, ◌==◌, nat_lt, IfErr};
+ghost use Rattle.std.specs.Result.{is_ok};
+ghost use Rattle.nesting.specs.Nesting.{top, below};
+
+use std::marker::Model;
 
 /// How deep ifs, loops and turns may nest.
 pub const DEPTH: usize = 8;
 
 /// At most eight items, the last one pushed on top.
+// An array and not an `ArrayVec`, which asks `Default` of its items.
 #[derive(Drop)]
 pub struct Stack<T: Copy> {
     items: [T; DEPTH],
     depth: usize,
-    ghost shallow: { depth ≤ 8 },
-    ghost whole: { length items ≡ 8 },
+}
+
+impl<T: Copy> Model for Stack<T> {
+    // The topmost first.
+    ghost Value = { List T };
+
+    ghost view = { λ s. reverse (take s.depth s.items) };
+
+    ghost invariant = { λ s. (s.depth ≤ 8) × (length s.items ≡ 8) };
 }
 
 impl<T: Copy> Stack<T> {
     /// An empty stack; `filler` stands in the places not yet used.
     pub fn new(filler: T) -> Stack<T>
-        ensures { view result.items result.depth ≡ [] }
+        ensures { result ≡ [] }
     {
         Stack {
             items: [filler; DEPTH],
@@ -27,46 +38,54 @@ impl<T: Copy> Stack<T> {
     /// How many items there are.
     pub fn len(&self) -> usize
         ensures few { result ≤ 8 }
-        ensures count { result ≡ length (view self.now.items self.now.depth) }
+        ensures count { result ≡ length self.now }
     {
         let Stack { depth, .. } = self;
         *depth
     }
 
+    /// Whether there is none.
+    pub fn is_empty(&self) -> bool
+        ensures { result ≡ (length self.now == 0) }
+    {
+        self.depth == 0
+    }
+
+    /// The items, the topmost last.
+    pub fn as_slice(&self) -> &[T]
+        ensures { reverse result.now ≡ self.now }
+    {
+        &self.items[..self.depth]
+    }
+
     /// The item so many places below the top.
     pub fn peek(&self, under: usize) -> Option<T>
-        ensures { result ≡ top (drop under (view self.now.items self.now.depth)) }
+        ensures { result ≡ top (drop under self.now) }
     {
-        if under < self.depth {
-            Some(self.items[self.depth - 1 - under])
-        } else {
-            None
-        }
+        self.as_slice().iter().rev().nth(under).copied()
     }
 
-    /// Puts an item on top, and says whether there was room.
-    pub fn push(&mut self, item: T) -> bool
-        ensures fits { result ≡ nat_lt (length (view self.old.items self.old.depth)) 8 }
-        ensures after { view self.new.items self.new.depth ≡ (if result then item ∷ view self.old.items self.old.depth else view self.old.items self.old.depth) }
+    /// Puts an item on top, or hands it back where there is no room.
+    pub fn push(&mut self, item: T) -> Result<(), T>
+        ensures fits { is_ok result ≡ nat_lt (length self.old) 8 }
+        ensures after { self.new ≡ (if is_ok result then item ∷ self.old else self.old) }
+        ensures back { IfErr result (λ x. x ≡ item) }
     {
-        if self.depth < DEPTH {
-            self.items[self.depth] = item;
-            self.depth += 1;
-            true
-        } else {
-            false
+        if self.depth == DEPTH {
+            return Err(item);
         }
+        self.items[self.depth] = item;
+        self.depth += 1;
+        Ok(())
     }
 
-    /// Takes the topmost item off.
+    /// Takes the topmost item off; there is room for another then.
     pub fn pop(&mut self) -> Option<T>
-        ensures value { result ≡ top (view self.old.items self.old.depth) }
-        ensures after { view self.new.items self.new.depth ≡ below (view self.old.items self.old.depth) }
+        ensures value { result ≡ top self.old }
+        ensures after { self.new ≡ below self.old }
+        ensures room { length self.new < 8 }
     {
-        if self.depth == 0 {
-            return None;
-        }
-        self.depth -= 1;
+        self.depth = self.depth.checked_sub(1)?;
         Some(self.items[self.depth])
     }
 }

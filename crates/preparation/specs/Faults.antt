@@ -1,8 +1,8 @@
--- The stages, numbers and places of the faults of preparing a rule.
+-- The stages, numbers, places and sentences of the faults of preparing a rule.
 use Rattle.std.specs.Prelude.{ℕ, List, ◌++◌, codes, decimal}
-use Rattle.rules.specs.Faults.{fault_number, fault_place}
-use Rattle.balance.specs.Faults.{balance_number, balance_place}
-use Rattle.text.specs.Faults.{read_number, read_place}
+use Rattle.rules.specs.Faults.{fault_number, fault_place, check_sentence}
+use Rattle.balance.specs.Faults.{balance_number, balance_place, balance_sentence}
+use Rattle.text.specs.Faults.{read_number, read_place, read_sentence}
 use Rattle.preparation.specs.declared.fault.Stage.{Stage}
 use Rattle.preparation.specs.declared.fault.Stage.TheVariants as stage
 use Rattle.preparation.specs.declared.fault.PrepareFault.{PrepareFault}
@@ -31,6 +31,12 @@ abbrev pub prepare_place : PrepareFault → ℕ
 prepare_place (fault.Read f) = read_place f
 prepare_place (fault.Check f) = fault_place f
 prepare_place (fault.Balance f) = balance_place f
+
+-- What that stage's fault says is wrong, in a sentence.
+abbrev pub sentence : PrepareFault → List ℕ
+sentence (fault.Read f) = read_sentence f
+sentence (fault.Check f) = check_sentence f
+sentence (fault.Balance f) = balance_sentence f
 
 -- The line that reports a refusal at a stage of that name: `refused`, the name, the number and the place.
 abbrev pub refused_text : List ℕ → ℕ → ℕ → List ℕ

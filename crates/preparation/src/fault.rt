@@ -1,13 +1,16 @@
-ghost use Rattle.std.specs.Prelude.{◌≡◌};
-ghost use Rattle.preparation.specs.Faults.{stage_name, prepare_stage, prepare_number, prepare_place};
+ghost use Rattle.std.specs.Prelude.{◌≡◌, Some};
+ghost use Rattle.preparation.specs.Faults.{stage_name, prepare_stage, prepare_number, prepare_place, sentence};
 ghost use Rattle.preparation.specs.declared.fault.PrepareFault.TheVariants.{Read, Check, Balance};
 
 use balance::fault::BalanceFault;
+use faults::Fault;
 use rules::fault::CheckFault;
+use std::error::Error;
+use std::fmt;
 use text::fault::ReadFault;
 
 /// A stage of preparing a rule.
-#[derive(Clone, Copy, PartialEq, Debug)]
+#[derive(Clone, Copy, PartialEq, Eq, Debug)]
 pub enum Stage {
     Read,
     Check,
@@ -27,14 +30,24 @@ impl Stage {
     }
 }
 
+/// The name.
+impl fmt::Display for Stage {
+    ghost output = { λ stage. Some (stage_name stage) };
+
+    fn fmt<W: fmt::Write>(&self, f: &mut fmt::Formatter<W>) -> fmt::Result {
+        f.write_str(self.name())
+    }
+}
+
 /// Why a rule was not prepared: the stage, with its fault.
-#[derive(Clone, Copy, PartialEq, Debug)]
+#[derive(Clone, Copy, PartialEq, Eq, Debug)]
 pub enum PrepareFault {
     Read(ReadFault),
     Check(CheckFault),
     Balance(BalanceFault),
 }
 
+// The three conversions by hand: a derive does not promise which case it makes.
 impl From<ReadFault> for PrepareFault {
     ghost from_gives = { λ e r. r ≡ Read e };
 
@@ -70,11 +83,17 @@ impl PrepareFault {
             PrepareFault::Balance(_) => Stage::Balance,
         }
     }
+}
 
-    /// The number of the stage's fault.
-    pub fn number(&self) -> u32
-        ensures { result ≡ prepare_number self.now }
-    {
+/// Number, place and sentence are those of the stage's fault.
+impl Fault for PrepareFault {
+    ghost number_of = { prepare_number };
+
+    ghost place_of = { prepare_place };
+
+    ghost sentence_of = { sentence };
+
+    fn number(&self) -> u32 {
         match self {
             PrepareFault::Read(fault) => fault.number(),
             PrepareFault::Check(fault) => fault.number(),
@@ -82,14 +101,31 @@ impl PrepareFault {
         }
     }
 
-    /// The place of the stage's fault.
-    pub fn place(&self) -> usize
-        ensures { result ≡ prepare_place self.now }
-    {
+    fn place(&self) -> usize {
         match self {
             PrepareFault::Read(fault) => fault.place(),
             PrepareFault::Check(fault) => fault.place(),
             PrepareFault::Balance(fault) => fault.place(),
         }
     }
+
+    fn sentence(&self) -> &'static str {
+        match self {
+            PrepareFault::Read(fault) => fault.sentence(),
+            PrepareFault::Check(fault) => fault.sentence(),
+            PrepareFault::Balance(fault) => fault.sentence(),
+        }
+    }
 }
+
+/// The sentence.
+// By hand: the derive of `thiserror` promises nothing of what is printed, and Rust refuses one impl for all refusals.
+impl fmt::Display for PrepareFault {
+    ghost output = { λ fault. Some (sentence fault) };
+
+    fn fmt<W: fmt::Write>(&self, f: &mut fmt::Formatter<W>) -> fmt::Result {
+        f.write_str(self.sentence())
+    }
+}
+
+impl Error for PrepareFault {}

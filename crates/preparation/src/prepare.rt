@@ -13,7 +13,8 @@ use rules::check::{Costs, check};
 use text::table::read;
 
 /// What was prepared: how many lines of each lent table it fills, and what the rule costs.
-#[derive(Clone, Copy, PartialEq, Debug)]
+// Counts, since parts of the tables would keep both lent.
+#[derive(Clone, Copy, PartialEq, Eq, Debug)]
 pub struct Prepared {
     pub rule_lines: usize,
     pub balanced_lines: usize,
@@ -21,19 +22,21 @@ pub struct Prepared {
 }
 
 /// Checks a rule and balances it: what it costs, and how many balanced lines there are.
+#[tactic(auto, using(balance::proofs::Lent::always))]
 fn check_and_balance(lines: &[Line], table: &mut [Line]) -> Result<(Costs, usize), PrepareFault>
     ensures answer { result ≡ balancing lines.now (length table.old) }
     ensures table { table.new ≡ checked_after (checked lines.now) lines.now table.old }
     ensures ready { IfOk result (λ p. Checked lines.now × Written p.1 table.new) }
     ensures balanced { IfOk result (λ p. Balanced lines.now (take p.1 table.new) p.0) }
 {
-    let costs = check(lines)?;
-    let balanced_lines = balance(lines, table)?;
-    Ok((costs, balanced_lines))
+    let rule = check(lines)?;
+    let balanced_lines = balance(&rule, table)?;
+    Ok((rule.costs(), balanced_lines))
 }
 
 /// Reads a rule text into the first table, checks it, and balances it into the second. Refused after reading, it leaves all lines read in the first
 /// table and the second as it was.
+#[tactic(auto, using(crate::proofs::Fronts::fronts))]
 pub fn prepare(text: &[u8], rule: &mut [Line], table: &mut [Line]) -> Result<Prepared, PrepareFault>
     ensures answer { result ≡ preparing text.now (length rule.old) (length table.old) }
     ensures rule { rule.new ≡ filled (reading text.now (length rule.old)) rule.old }
@@ -47,7 +50,7 @@ pub fn prepare(text: &[u8], rule: &mut [Line], table: &mut [Line]) -> Result<Pre
     ensures explained { IfErr result (λ fault. Explained text.now fault) }
 {
     let rule_lines = read(text, rule)?;
-    let (costs, balanced_lines) = check_and_balance(&rule[0..rule_lines], table)?;
+    let (costs, balanced_lines) = check_and_balance(&rule[..rule_lines], table)?;
     Ok(Prepared {
         rule_lines,
         balanced_lines,

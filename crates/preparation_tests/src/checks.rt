@@ -1,29 +1,27 @@
 //! Checks of tables that no text gives.
+use crate::refused;
 use lines::field::Field;
 use lines::line::Line;
 use lines::operation::Operation;
-use rules::check;
-use std::test::Fail;
+use rules::check::{Costs, check};
 
-fn refusal(table: &[Line]) -> (u32, usize) {
-    match check::check(table) {
-        Ok(_) => (0, 0),
-        Err(fault) => (fault.number(), fault.place()),
-    }
+/// The costs, or the fault's number and place.
+fn outcome(table: &[Line]) -> Result<Costs, (u32, usize)> {
+    refused(check(table)).map(|rule| rule.costs())
 }
 
 #[test]
 fn fields_of_any_byte(rt: HostRuntime) {
-    assert_eq!(rt; refusal(&[Line::If(Field(255))]), (12, 0));
+    assert_eq!(rt; outcome(&[Line::If(Field(255))]), Err((12, 0)));
     assert_eq!(rt;
-        refusal(&[Line::Operation(Operation::Copy(Field(0), Field(200)))]),
-        (12, 0)
+        outcome(&[Line::Operation(Operation::Copy(Field(0), Field(200)))]),
+        Err((12, 0))
     );
-    assert_eq!(rt; refusal(&[Line::Turn(Field(255), 0)]), (11, 0));
+    assert_eq!(rt; outcome(&[Line::Turn(Field(255), 0)]), Err((11, 0)));
 }
 
 #[test]
-fn costs_of_a_rule(rt: HostRuntime) -> Result<(), Fail> {
+fn costs_of_a_rule(rt: HostRuntime) {
     let rule = [
         Line::Loop(Field(1), 3),
         Line::Operation(Operation::Add(Field(0), Field(0), Field(1))),
@@ -33,12 +31,10 @@ fn costs_of_a_rule(rt: HostRuntime) -> Result<(), Fail> {
         Line::End,
         Line::End,
     ];
-    match check::check(&rule) {
-        // Plain: 1 + 3 × (1 + 1 + 1). Balanced: 3 + 4 + 3 × (5 + 5 + 3 + 1).
-        Ok(costs) => {
-            assert!(rt; costs.plain == 10 && costs.balanced == 49);
-            Ok(())
-        },
-        Err(_) => Err(Fail::new("the rule is refused")),
-    }
+    // Plain: 1 + 3 × (1 + 1 + 1). Balanced: 3 + 4 + 3 × (5 + 5 + 3 + 1).
+    let expected = Costs {
+        plain: 10,
+        balanced: 49,
+    };
+    assert_eq!(rt; outcome(&rule), Ok(expected));
 }

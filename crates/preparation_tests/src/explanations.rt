@@ -10,10 +10,7 @@ use text::text_lines::line_text;
 fn refusal(text: &[u8]) -> Option<PrepareFault> {
     let mut rule = [Line::Break; 4];
     let mut table = [Line::Break; 8];
-    match prepare(text, &mut rule, &mut table) {
-        Ok(_) => None,
-        Err(fault) => Some(fault),
-    }
+    prepare(text, &mut rule, &mut table).err()
 }
 
 /// A text with what is said of it, and the number and text of the line at fault, if one is.

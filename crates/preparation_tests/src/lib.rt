@@ -9,3 +9,9 @@ mod checks;
 mod explanations;
 #[cfg(test)]
 mod texts;
+
+/// A refusal by its number and its place.
+#[cfg(test)]
+fn refused<T, F: faults::Fault + Drop>(answer: Result<T, F>) -> Result<T, (u32, usize)> {
+    answer.map_err(|fault| (fault.number(), fault.place()))
+}

@@ -1,7 +1,6 @@
 //! `prepare`: reads a rule from standard input, and prints its balanced lines and their steps, or why it is refused.
 #![tactic(auto)]
 
-use anyhow::anyhow;
 use lines::line::Line;
 use listing::{MAX_LINE_BYTES, list};
 use preparation::explain::{Refusal, fault_line};
@@ -10,14 +9,12 @@ use preparation::prepare::prepare;
 use std::io;
 use std::io::{Read, Write};
 use std::process::ExitCode;
+use tables::admit::MAX_TABLE_LINES;
 use text::table::MAX_TEXT;
 use text::text_lines::line_text;
 
-/// How many lines each lent table has.
-const TABLE_LINES: usize = 2400;
-
 /// Room for the listing of any balanced table.
-const LISTING_BYTES: usize = MAX_LINE_BYTES * TABLE_LINES;
+const LISTING_BYTES: usize = MAX_LINE_BYTES * MAX_TABLE_LINES;
 
 /// Standard input, of which at most one byte past the limit is taken.
 fn read_text(rt: &HostRuntime) -> io::Result<Vec<u8>> {
@@ -29,12 +26,8 @@ fn read_text(rt: &HostRuntime) -> io::Result<Vec<u8>> {
 /// Prints the lines of a table and its steps.
 fn print_table(rt: &HostRuntime, table: &[Line], steps: u32) -> anyhow::Result<()> {
     let mut buffer = vec![in rt.alloc(); 0u8; LISTING_BYTES]?;
-    let Ok(length) = list(table, &mut buffer) else {
-        return Err(anyhow!("the listing is too long"));
-    };
-    if let Some(listing) = buffer.get(0..length) {
-        rt.stdout().write_all(listing)?;
-    }
+    let length = list(table, &mut buffer)?;
+    rt.stdout().write_all(&buffer[..length])?;
     println!(rt; "steps {steps}")?;
     Ok(())
 }
@@ -57,12 +50,12 @@ fn print_refusal(rt: &HostRuntime, fault: &PrepareFault, text: &[u8]) -> anyhow:
 /// Prepares the rule, and answers the status to end with.
 fn run(rt: &HostRuntime) -> anyhow::Result<ExitCode> {
     let text = read_text(rt)?;
-    let mut rule = vec![in rt.alloc(); Line::End; TABLE_LINES]?;
-    let mut table = vec![in rt.alloc(); Line::End; TABLE_LINES]?;
+    let mut rule = vec![in rt.alloc(); Line::End; MAX_TABLE_LINES]?;
+    let mut table = vec![in rt.alloc(); Line::End; MAX_TABLE_LINES]?;
     match prepare(&text, &mut rule, &mut table) {
         Ok(prepared) => {
             let lines = prepared.balanced_lines;
-            print_table(rt, &table[0..lines], prepared.costs.balanced)?;
+            print_table(rt, &table[..lines], prepared.costs.balanced)?;
             Ok(ExitCode::SUCCESS)
         }
         Err(fault) => {

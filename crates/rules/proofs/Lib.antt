@@ -1,5 +1,3 @@
-pub mod Steps
 pub mod Parsed
 pub mod Costed
-pub mod Agreed
 pub mod Checked

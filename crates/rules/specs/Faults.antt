@@ -1,5 +1,5 @@
--- The numbers and places of the check's faults.
-use Rattle.std.specs.Prelude.{ℕ}
+-- The numbers, places and sentences of the check's faults.
+use Rattle.std.specs.Prelude.{ℕ, List, codes}
 use Rattle.rules.specs.declared.fault.CheckFault.{CheckFault}
 use Rattle.rules.specs.declared.fault.CheckFault.TheVariants as fault
 
@@ -32,3 +32,18 @@ fault_place (fault.BreakOutsideLoop line) = line
 fault_place (fault.TooManyRounds line) = line
 fault_place (fault.Unclosed count) = count
 fault_place (fault.TooManySteps count) = count
+
+-- What is wrong with the table, in a sentence.
+abbrev pub check_sentence : CheckFault → List ℕ
+check_sentence (fault.TooManyLines count) = codes "the rule has more than 256 lines"
+check_sentence (fault.TurnInRule at) = codes "a rule has no `turn`"
+check_sentence (fault.FieldOffCard at) = codes "a field is over f63"
+check_sentence (fault.StrayElse at) = codes "the innermost open line is no `if`"
+check_sentence (fault.SecondElse at) = codes "the `if` has an `else` already"
+check_sentence (fault.StrayEnd at) = codes "no line is open here"
+check_sentence (fault.MissingElse at) = codes "the `if` has no `else`"
+check_sentence (fault.TooDeep at) = codes "the line opens inside eight others"
+check_sentence (fault.BreakOutsideLoop at) = codes "the `break` is outside every loop"
+check_sentence (fault.TooManyRounds at) = codes "the loop has more than 1,000 rounds"
+check_sentence (fault.Unclosed count) = codes "a line is left open at the end"
+check_sentence (fault.TooManySteps count) = codes "the rule takes more than 65,535 steps once balanced"

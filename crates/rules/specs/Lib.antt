@@ -3,3 +3,4 @@ pub mod Costs
 pub mod Faults
 pub mod Checks
 pub mod Passes
+pub mod CheckedRules

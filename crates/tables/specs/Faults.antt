@@ -1,5 +1,5 @@
--- The numbers and places of the faults of admission.
-use Rattle.std.specs.Prelude.{ℕ}
+-- The numbers, places and sentences of the faults of admission.
+use Rattle.std.specs.Prelude.{ℕ, List, codes}
 use Rattle.tables.specs.declared.fault.AdmissionFault.{AdmissionFault}
 use Rattle.tables.specs.declared.fault.AdmissionFault.TheVariants as fault
 
@@ -24,3 +24,14 @@ admission_place (fault.TooDeep line) = line
 admission_place (fault.TooManyRounds line) = line
 admission_place (fault.Unclosed count) = count
 admission_place (fault.TooManySteps count) = count
+
+-- What is wrong with the table, in a sentence.
+abbrev pub admission_sentence : AdmissionFault → List ℕ
+admission_sentence (fault.TooManyLines count) = codes "the table has more than 2,400 lines"
+admission_sentence (fault.RuleLine line) = codes "a balanced table has no such line"
+admission_sentence (fault.FieldOffTable line) = codes "a field is over f95"
+admission_sentence (fault.StrayEnd line) = codes "no turn is open here"
+admission_sentence (fault.TooDeep line) = codes "the turn opens inside eight others"
+admission_sentence (fault.TooManyRounds line) = codes "the turn has more than 1,000 rounds"
+admission_sentence (fault.Unclosed count) = codes "a turn is left open at the end"
+admission_sentence (fault.TooManySteps count) = codes "the table takes more than 65,535 steps"

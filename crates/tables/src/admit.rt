@@ -1,13 +1,13 @@
 ghost use Rattle.std.specs.Prelude.{◌≡◌, [], OnOk};
-ghost use Rattle.nesting.specs.Nesting.{view};
 ghost use Rattle.tables.specs.Admission.{admission, Admitted, IsTable};
-ghost use Rattle.tables.specs.Counting.{turn_steps, closing, opening, step, standing, finish, count};
+ghost use Rattle.nesting.specs.Passes.{standing};
+ghost use Rattle.tables.specs.Counting.{turn_steps, closing, opening, step, finish};
 
 use crate::fault::AdmissionFault;
-use lines::field::Field;
 use lines::line::Line;
 use nesting::capped::{capped_product, capped_sum};
 use nesting::limits::{MAX_ROUNDS, MAX_STEPS};
+use nesting::pass::{Pass, pass_over};
 use nesting::stack::{DEPTH, Stack};
 
 /// The most lines of a balanced table.
@@ -33,99 +33,93 @@ impl OpenTurn {
     }
 }
 
-/// A turn opens: the steps before it are kept until its end.
-fn open_turn(
-    stack: &mut Stack<OpenTurn>,
+/// Where admission of a table stands: the open turns, and the steps of the innermost block so far.
+#[derive(Drop)]
+pub struct StepCounter {
+    stack: Stack<OpenTurn>,
     steps: u32,
-    at: usize,
-    rounds: u32,
-) -> Result<u32, AdmissionFault>
-    ensures { opening at rounds (view stack.old.items stack.old.depth, steps) ≡ standing result (view stack.new.items stack.new.depth) }
-{
-    if stack.len() >= DEPTH {
-        return Err(AdmissionFault::TooDeep(at));
-    }
-    if rounds > MAX_ROUNDS {
-        return Err(AdmissionFault::TooManyRounds(at));
-    }
-    let _ = stack.push(OpenTurn {
-        rounds,
-        before: steps,
-    });
-    Ok(0)
 }
 
-/// `end`: the steps of the innermost turn are added to those before it.
-fn close_turn(stack: &mut Stack<OpenTurn>, steps: u32, at: usize) -> Result<u32, AdmissionFault>
-    ensures { closing at (view stack.old.items stack.old.depth, steps) ≡ standing result (view stack.new.items stack.new.depth) }
-{
-    match stack.pop() {
-        Some(turn) => Ok(turn.steps(steps)),
-        None => Err(AdmissionFault::StrayEnd(at)),
+impl StepCounter {
+    /// Before the first line.
+    fn new() -> StepCounter
+        ensures { result ≡ record { stack = []; steps = 0 } }
+    {
+        StepCounter {
+            stack: Stack::new(OpenTurn {
+                rounds: 0,
+                before: 0,
+            }),
+            steps: 0,
+        }
+    }
+
+    /// A turn opens: the steps before it are kept until its end.
+    fn open_turn(&mut self, at: usize, rounds: u32) -> Result<(), AdmissionFault>
+        ensures { opening at rounds self.old ≡ standing result self.new }
+    {
+        if self.stack.len() >= DEPTH {
+            return Err(AdmissionFault::TooDeep(at));
+        }
+        if rounds > MAX_ROUNDS {
+            return Err(AdmissionFault::TooManyRounds(at));
+        }
+        let _ = self.stack.push(OpenTurn {
+            rounds,
+            before: self.steps,
+        });
+        self.steps = 0;
+        Ok(())
+    }
+
+    /// `end`: the steps of the innermost turn are added to those before it.
+    fn close_turn(&mut self, at: usize) -> Result<(), AdmissionFault>
+        ensures { closing at self.old ≡ standing result self.new }
+    {
+        let turn = self.stack.pop().ok_or(AdmissionFault::StrayEnd(at))?;
+        self.steps = turn.steps(self.steps);
+        Ok(())
     }
 }
 
-/// The steps after one more line, or what is wrong with the line.
-fn admit_line(
-    stack: &mut Stack<OpenTurn>,
-    steps: u32,
-    at: usize,
-    line: &Line,
-) -> Result<u32, AdmissionFault>
-    ensures { step at (view stack.old.items stack.old.depth, steps) line.now ≡ standing result (view stack.new.items stack.new.depth) }
-{
-    match line {
-        Line::Operation(operation) => {
-            if operation.is_within(TABLE_FIELDS) {
-                Ok(capped_sum(steps, 1))
-            } else {
-                Err(AdmissionFault::FieldOffTable(at))
+impl Pass for StepCounter {
+    type Answer = u32;
+
+    type Fault = AdmissionFault;
+
+    ghost step = { step };
+
+    ghost ending = { finish };
+
+    fn check_line(&mut self, at: usize, line: &Line) -> Result<(), AdmissionFault> {
+        match line {
+            Line::Operation(operation) if operation.is_within(TABLE_FIELDS) => {
+                self.steps = capped_sum(self.steps, 1);
+                Ok(())
+            }
+            Line::Turn(counter, rounds) if counter.0 < TABLE_FIELDS => self.open_turn(at, *rounds),
+            Line::Operation(_) | Line::Turn(_, _) => Err(AdmissionFault::FieldOffTable(at)),
+            Line::End => self.close_turn(at),
+            Line::Else | Line::Break | Line::If(_) | Line::Loop(_, _) => {
+                Err(AdmissionFault::RuleLine(at))
             }
         }
-        Line::Turn(Field(counter), rounds) => {
-            if *counter < TABLE_FIELDS {
-                open_turn(stack, steps, at, *rounds)
-            } else {
-                Err(AdmissionFault::FieldOffTable(at))
-            }
+    }
+
+    // The table has to be closed and not to take too many steps.
+    fn finish(&self, lines: usize) -> Result<u32, AdmissionFault> {
+        if !self.stack.is_empty() {
+            Err(AdmissionFault::Unclosed(lines))
+        } else if self.steps > MAX_STEPS {
+            Err(AdmissionFault::TooManySteps(lines))
+        } else {
+            Ok(self.steps)
         }
-        Line::End => close_turn(stack, steps, at),
-        Line::Else => Err(AdmissionFault::RuleLine(at)),
-        Line::Break => Err(AdmissionFault::RuleLine(at)),
-        Line::If(_) => Err(AdmissionFault::RuleLine(at)),
-        Line::Loop(_, _) => Err(AdmissionFault::RuleLine(at)),
     }
-}
-
-/// The steps of the whole table, which has to be closed and not to take too many.
-fn finish(stack: &Stack<OpenTurn>, steps: u32, lines: usize) -> Result<u32, AdmissionFault>
-    ensures { result ≡ finish lines (view stack.now.items stack.now.depth, steps) }
-{
-    if stack.peek(0).is_some() {
-        Err(AdmissionFault::Unclosed(lines))
-    } else if steps > MAX_STEPS {
-        Err(AdmissionFault::TooManySteps(lines))
-    } else {
-        Ok(steps)
-    }
-}
-
-/// Admission of a table of any length.
-fn count_steps(table: &[Line]) -> Result<u32, AdmissionFault>
-    ensures { result ≡ count 0 ([], 0) table.now }
-{
-    let mut stack = Stack::new(OpenTurn {
-        rounds: 0,
-        before: 0,
-    });
-    let mut steps = 0;
-    for (at, line) in table.iter().enumerate() {
-        steps = admit_line(&mut stack, steps, at, line)?;
-    }
-    finish(&stack, steps, table.len())
 }
 
 /// Whether a table may run: its steps, or the first fault.
+#[tactic(auto, using(crate::proofs::Admits::admits, crate::proofs::Tables::stands, crate::proofs::Tables::lines_flat))]
 pub fn admit(table: &[Line]) -> Result<u32, AdmissionFault>
     ensures answer { result ≡ admission table.now }
     ensures passed { OnOk result (Admitted table.now) }
@@ -134,5 +128,5 @@ pub fn admit(table: &[Line]) -> Result<u32, AdmissionFault>
     if table.len() > MAX_TABLE_LINES {
         return Err(AdmissionFault::TooManyLines(table.len()));
     }
-    count_steps(table)
+    pass_over(StepCounter::new(), table)
 }

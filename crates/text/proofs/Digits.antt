@@ -1,10 +1,9 @@
 -- A number read digit by digit, given up as soon as it is too large.
-use Rattle.std.proofs.Common.{◌≡◌, ℕ, ◌+◌, ◌-◌, ◌*◌, ◌<◌, ◌≤◌, Bool, true, false, cond, ◌&&◌, ltb, leb, List, [], ◌∷◌, length, get_or, take, drop, Some, None, Option, refl, ◌∙◌, arith}
-use Rattle.std.proofs.lemmas.List.{at_drop_more, take_rest}
-use Rattle.std.proofs.lemmas.Bool.{eq-eqb, le-leb, lt-leb, lt-ltb, le-ltb, ltb-true, ltb-false, and_right}
+use Rattle.std.proofs.Common.{◌≡◌, ℕ, ◌+◌, ◌-◌, ◌*◌, ◌≤◌, Bool, true, false, cond, ◌&&◌, ltb, leb, List, [], ◌∷◌, Some, None, Option, refl, arith}
+use Rattle.std.proofs.lemmas.Bool.{le-leb, lt-leb, ltb-true, ltb-false, and_right}
 use Rattle.std.specs.Char.{is_ascii_digit}
 use Rattle.std.specs.Str.{all_ascii_digits}
-use Rattle.text.specs.Numerals.{value_after, digits_value, number_of, field_numbered, field_of}
+use Rattle.text.specs.Numerals.{value_after, digits_value}
 
 -- The number after the digits of n, or none.
 abbrev pub value_from : ℕ → List ℕ → Option ℕ
@@ -31,19 +30,3 @@ value_from_is n (d ∷ ds) h = by_digit (is_ascii_digit d) (ltb 4294967295 (n * 
 
 pub value_from_start : (ds : List ℕ) → value_from 0 ds ≡ digits_value ds
 value_from_start ds = value_from_is 0 ds (omega arith)
-
--- k is the value of the digit at i.
-module _ (n : ℕ) (ds : List ℕ) (i k : ℕ) (h : i < length ds) (v : k ≡ get_or ds i 0 - 48) where
-  pub value_other : is_ascii_digit (get_or ds i 0) ≡ false → value_from n (drop i ds) ≡ None
-  value_other e = at_drop_more (value_from n) ds i 0 h ∙ rw e refl
-
-  pub value_large : is_ascii_digit (get_or ds i 0) ≡ true → 4294967295 < n * 10 + k → value_from n (drop i ds) ≡ None
-  value_large e b = let t = lt-ltb 4294967295 (n * 10 + k) b in at_drop_more (value_from n) ds i 0 h ∙ rw (e, ← v, t) refl
-
-  pub value_more : is_ascii_digit (get_or ds i 0) ≡ true → n * 10 + k ≤ 4294967295 → value_from n (drop i ds) ≡ value_from (n * 10 + k) (drop (i + 1) ds)
-  value_more e b = let t = le-ltb 4294967295 (n * 10 + k) b in at_drop_more (value_from n) ds i 0 h ∙ rw (e, ← v, t) refl
-
--- A field is read after its first byte.
-pub field_rest : (bs : List ℕ) → 0 < length bs → get_or bs 0 0 ≡ 102 → field_of bs ≡ field_numbered (number_of (take (length bs - 1) (drop 1 bs)))
-field_rest [] h e = absurd (omega arith)
-field_rest (b ∷ bs) h e = let t = eq-eqb b 102 e in let r = take_rest (b ∷ bs) 1 in rw (t, r) refl

@@ -1,9 +1,11 @@
 -- The tokens of a line, one by one.
-use Rattle.std.proofs.Common.{◌≡◌, ℕ, suc, ◌+◌, ◌-◌, ◌<◌, ◌≤◌, Bool, true, false, cond, not, ◌&&◌, List, [], ◌∷◌, length, take, drop, sym, refl, ap, ◌∙◌, ⊎_elim, arith}
+use Rattle.std.proofs.Common.{◌≡◌, ℕ, suc, ◌+◌, ◌<◌, Bool, true, false, cond, not, ◌&&◌, eqb, List, [], ◌∷◌, length, take, drop, sym, refl, ap, ◌∙◌, ⊎_elim, arith}
 use Rattle.std.proofs.lemmas.List.{drop-drop, length-take}
-use Rattle.std.proofs.lemmas.Bool.{cases_Bool, eqb-true, and_parts, not-true, both_ways, or_parts, cases_lt, false≢true}
+use Rattle.std.proofs.lemmas.List.Sums.{prefix_len-le-length}
+use Rattle.std.proofs.lemmas.Bool.{cases_Bool, eqb-true, eqb-false, and_parts, not-true, both_ways, or_parts, cases_lt, false≢true}
 use Rattle.text.specs.TextLines.{ends_line, line_size, next_line}
-use Rattle.text.specs.Tokens.{Piece, PartOf, is_blank, ends_tokens, is_solid, solid_first, lengthened, tokens, tokens_at, blanks, solids, rest_of, after_first, after_token}
+use Rattle.text.specs.Tokens.{Piece, is_blank, ends_tokens, is_solid, solid_first, lengthened, tokens, tokens_at, blanks, solids, rest_of, after_first, after_token}
+use Rattle.text.proofs.Runs.{run_cons}
 
 -- What a byte is not.
 blank_goes_on : (b : ℕ) → is_blank b ≡ true → ends_tokens b ≡ false
@@ -24,7 +26,7 @@ other_ends false true e f = refl
 other_ends false false e f = absurd (both_ways true f refl)
 
 -- The first byte of a line, by what it is.
-abbrev chosen : Bool → Bool → Bool → ℕ → ℕ → List Piece → List Piece
+abbrev pub chosen : Bool → Bool → Bool → ℕ → ℕ → List Piece → List Piece
 chosen e k s at b ts = cond e [] (cond k ts (cond s (lengthened at b ts) (record { place = at; bytes = b ∷ [] } ∷ ts)))
 
 module _ (at b : ℕ) (bs : List ℕ) where
@@ -44,10 +46,10 @@ module _ (at b : ℕ) (bs : List ℕ) where
 
 module _ (b : ℕ) (bs : List ℕ) where
   blanks_is : (t : Bool) → is_blank b ≡ t → blanks (b ∷ bs) ≡ cond t (suc (blanks bs)) 0
-  blanks_is t e = ap (λ t. cond t (suc (blanks bs)) 0) e
+  blanks_is t e = run_cons is_blank b bs t e
 
   solids_is : (t : Bool) → is_solid b ≡ t → solids (b ∷ bs) ≡ cond t (suc (solids bs)) 0
-  solids_is t e = ap (λ t. cond t (suc (solids bs)) 0) e
+  solids_is t e = run_cons is_solid b bs t e
 
   size_is : (t : Bool) → ends_line b ≡ t → line_size (b ∷ bs) ≡ cond t 1 (suc (line_size bs))
   size_is t e = ap (λ t. cond t 1 (suc (line_size bs))) e
@@ -136,79 +138,83 @@ tokens_none at (b ∷ bs) e f = ⊎_elim
     (cases_Bool (is_solid b)))
     (cases_Bool (is_blank b))
 
-pub solids_within : (bs : List ℕ) → solids bs ≤ length bs
-solids_within [] = omega arith
-solids_within (b ∷ bs) = ⊎_elim
-    (λ t. omega (arith, solids_is b bs true t, solids_within bs))
-    (λ f. omega (arith, solids_is b bs false f))
-    (cases_Bool (is_solid b))
-
--- The next token of a text at a place: it stands from `start` to `end`, unless these are the same.
-module _ (text : List ℕ) (at start end : ℕ) (s : start ≡ at + blanks (drop at text)) (e : end ≡ start + solids (drop start text)) where
+-- The next token of a text at a place: it stands at `start` and has n bytes, and there is none if n is 0.
+module _ (text : List ℕ) (at start n : ℕ) (s : start ≡ at + blanks (drop at text)) (e : n ≡ solids (drop start text)) where
   from_start : drop (blanks (drop at text)) (drop at text) ≡ drop start text
-  from_start = drop-drop (blanks (drop at text)) at text ∙ ap (λ n. drop n text) (sym s)
+  from_start = drop-drop (blanks (drop at text)) at text ∙ ap (λ k. drop k text) (sym s)
 
-  from_end : drop (solids (drop start text)) (drop start text) ≡ drop end text
-  from_end = drop-drop (solids (drop start text)) start text ∙ ap (λ n. drop n text) (sym e)
+  from_end : drop (solids (drop start text)) (drop start text) ≡ drop (start + n) text
+  from_end = drop-drop (solids (drop start text)) start text ∙ ap (λ k. drop (start + k) text) (sym e)
 
   skipped : tokens_at text at ≡ tokens_at text start
-  skipped = tokens_skip at (drop at text) ∙ ap (λ xs. tokens (at + blanks (drop at text)) xs) from_start ∙ ap (λ n. tokens n (drop start text)) (sym s)
+  skipped = tokens_skip at (drop at text) ∙ ap (λ xs. tokens (at + blanks (drop at text)) xs) from_start ∙ ap (λ k. tokens k (drop start text)) (sym s)
 
   no_blank : blanks (drop start text) ≡ 0
   no_blank = ap blanks (sym from_start) ∙ skip_stops (drop at text)
 
-  long : length (take (solids (drop start text)) (drop start text)) ≡ solids (drop start text)
-  long = omega (arith, length-take (solids (drop start text)) (drop start text), solids_within (drop start text))
-
-  pub next_some : start < end → tokens_at text at ≡ record { place = start; bytes = take (end - start) (drop start text) } ∷ tokens_at text end
+  pub next_some : 0 < n → tokens_at text at ≡ record { place = start; bytes = take n (drop start text) } ∷ tokens_at text (start + n)
   next_some h =
-      let n : solids (drop start text) ≡ end - start = omega arith in
-      let first = tokens_first start (drop start text) (solids_some (drop start text) (omega arith)) in
-      skipped ∙ first
+      skipped ∙ tokens_first start (drop start text) (solids_some (drop start text) (omega arith))
       ∙ ap (λ xs. front start (drop start text) ∷ tokens (start + solids (drop start text)) xs) from_end
-      ∙ ap (λ m. front start (drop start text) ∷ tokens m (drop end text)) (sym e)
-      ∙ ap (λ m. record { place = start; bytes = take m (drop start text) } ∷ tokens_at text end) n
+      ∙ ap (λ k. record { place = start; bytes = take k (drop start text) } ∷ tokens (start + k) (drop (start + n) text)) (sym e)
 
-  pub next_part : start < end → PartOf text (record { place = start; bytes = take (end - start) (drop start text) })
-  next_part h =
-      let n : solids (drop start text) ≡ end - start = omega arith in
-      let l : length (take (end - start) (drop start text)) ≡ end - start = ap (λ m. length (take m (drop start text))) (sym n) ∙ long ∙ n in
-      ap (λ m. take m (drop start text)) (sym l)
-
-  pub next_none : end ≤ start → tokens_at text at ≡ []
+  pub next_none : n ≡ 0 → tokens_at text at ≡ []
   next_none h = skipped ∙ tokens_none start (drop start text) no_blank (omega arith)
 
-  pub next_place : end ≡ after_token text at
+  pub part_long : length (take n (drop start text)) ≡ n
+  part_long = omega (arith, length-take n (drop start text), prefix_len-le-length is_solid (drop start text))
+
+  pub next_place : start + length (take n (drop start text)) ≡ after_token text at
   next_place = ⊎_elim
-      (λ h.
-      let n : end - start ≡ solids (drop start text) = omega arith in
-      let l : length (take (end - start) (drop start text)) ≡ solids (drop start text) = ap (λ m. length (take m (drop start text))) n ∙ long in
-      e ∙ ap (λ m. start + m) (sym l) ∙ sym (ap (after_first text at) (next_some h)))
-      (λ h. let n : end ≡ at + blanks (drop at text) = omega arith in n ∙ sym (ap (after_first text at) (next_none h)))
-      (cases_lt start end)
+      (λ h. sym (ap (after_first text at) (next_some h)))
+      (λ h. let k : start + length (take n (drop start text)) ≡ at + blanks (drop at text) = omega (arith, part_long) in k ∙ sym (ap (after_first text at) (next_none (omega arith))))
+      (cases_lt 0 n)
 
-  pub next_rest : tokens_at text end ≡ rest_of (tokens_at text at)
+  after_is : after_token text at ≡ start + n
+  after_is = sym next_place ∙ ap (λ k. start + k) part_long
+
+  pub next_rest : tokens_at text (after_token text at) ≡ rest_of (tokens_at text at)
   next_rest = ⊎_elim
-      (λ h. sym (ap rest_of (next_some h)))
-      (λ h. let n : end ≡ start = omega arith in ap (tokens_at text) n ∙ sym skipped ∙ next_none h ∙ sym (ap rest_of (next_none h)))
-      (cases_lt start end)
+      (λ h. ap (tokens_at text) after_is ∙ sym (ap rest_of (next_some h)))
+      (λ h. let k : start + n ≡ start = omega arith in ap (tokens_at text) (after_is ∙ k) ∙ sym skipped ∙ next_none (omega arith) ∙ sym (ap rest_of (next_none (omega arith))))
+      (cases_lt 0 n)
 
-  pub next_line_lem : next_line text end ≡ next_line text at
+  pub next_line_lem : next_line text (after_token text at) ≡ next_line text at
   next_line_lem =
       let a : line_size (drop at text) ≡ blanks (drop at text) + line_size (drop start text) = size_skip (drop at text) ∙ ap (λ xs. blanks (drop at text) + line_size xs) from_start in
-      let b : line_size (drop start text) ≡ solids (drop start text) + line_size (drop end text) = size_solid (drop start text) ∙ ap (λ xs. solids (drop start text) + line_size xs) from_end in
-      omega arith
+      let b : line_size (drop start text) ≡ solids (drop start text) + line_size (drop (start + n) text) = size_solid (drop start text) ∙ ap (λ xs. solids (drop start text) + line_size xs) from_end in
+      let c : next_line text (start + n) ≡ next_line text at = omega arith in
+      ap (next_line text) after_is ∙ c
+
+-- The same of a reader, which found b blanks in what was left of the text and then a part of n bytes.
+module _ (text : List ℕ) (at b n : ℕ) (first rest : List ℕ) (f : first ≡ drop at text) (s : b ≡ blanks first) (r : rest ≡ drop (at + b) text) (e : n ≡ solids rest) where
+  start_is : at + b ≡ at + blanks (drop at text)
+  start_is = ap (λ k. at + k) (s ∙ ap blanks f)
+
+  size_found : n ≡ solids (drop (at + b) text)
+  size_found = e ∙ ap solids r
+
+  pub found_place : at + b + length (take n rest) ≡ after_token text at
+  found_place = ap (λ xs. at + b + length (take n xs)) r ∙ next_place text at (at + b) n start_is size_found
+
+  long : length (take n rest) ≡ n
+  long = ap (λ xs. length (take n xs)) r ∙ part_long text at (at + b) n start_is size_found
+
+  pub found_none : true ≡ eqb (length (take n rest)) 0 → tokens_at text at ≡ []
+  found_none h = next_none text at (at + b) n start_is size_found (sym long ∙ eqb-true _ _ (sym h))
+
+  pub found_some : false ≡ eqb (length (take n rest)) 0 → tokens_at text at ≡ record { place = at + b; bytes = take n rest } ∷ tokens_at text (at + b + n)
+  found_some h =
+      next_some text at (at + b) n start_is size_found (omega (arith, long, eqb-false _ _ (sym h)))
+      ∙ ap (λ xs. record { place = at + b; bytes = take n xs } ∷ tokens_at text (at + b + n)) (sym r)
 
 -- What a line has left after a token, and that the line is the same.
 module _ (text : List ℕ) (at : ℕ) where
   abbrev begun : ℕ
   begun = at + blanks (drop at text)
 
-  abbrev ended : ℕ
-  ended = begun + solids (drop begun text)
-
   pub tokens-after : tokens_at text (after_token text at) ≡ rest_of (tokens_at text at)
-  tokens-after = ap (tokens_at text) (sym (next_place text at begun ended refl refl)) ∙ next_rest text at begun ended refl refl
+  tokens-after = next_rest text at begun (solids (drop begun text)) refl refl
 
   pub line_after : next_line text (after_token text at) ≡ next_line text at
-  line_after = ap (next_line text) (sym (next_place text at begun ended refl refl)) ∙ next_line_lem text at begun ended refl refl
+  line_after = next_line_lem text at begun (solids (drop begun text)) refl refl

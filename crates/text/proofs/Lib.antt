@@ -3,8 +3,8 @@ pub mod Runs
 pub mod Lexing
 pub mod Taking
 pub mod LineByLine
+pub mod Unread
 pub mod Filling
-pub mod Seeking
 pub mod Limits
 pub mod LinesOf
 pub mod RuleTexts

@@ -2,6 +2,7 @@
 use Rattle.std.proofs.Common.{◌≡◌, ℕ, ◌+◌, ◌-◌, ◌≤◌, min, true, ◌&&◌, eqb, ltb, leb, List, [], ◌∷◌, length, IfSome, IfOk, Some, None, Ok, Err, Option, Result, arith, lit<}
 use Rattle.std.proofs.lemmas.Bool.{cond_both, and_parts, and_from, eqb-false, leb-true, lt-ltb}
 use Rattle.std.specs.List.{AllByRecursion}
+use Rattle.std.specs.Option.{ok_or}
 use Rattle.std.specs.Str.{all_ascii_digits}
 use Rattle.lines.specs.Operations.{under, under3}
 use Rattle.lines.specs.Sizes.{Short, LineBelow, TableBelow}
@@ -9,9 +10,9 @@ use Rattle.lines.specs.declared.field.Field.{Field}
 use Rattle.lines.specs.declared.line.Line.{Line}
 use Rattle.lines.specs.declared.line.Line.TheVariants as line
 use Rattle.text.specs.Keywords.{keyword_of, applied}
-use Rattle.text.specs.Meanings.{Meaning, word, field, number, junk, number_or_junk, field_or, word_or, meanings}
+use Rattle.text.specs.Meanings.{Meaning, word, field, number, junk, number_or_junk, field_or, word_or, as_field, as_number, meanings}
 use Rattle.text.specs.Numerals.{decimal_value, digits_value, number_of, field_numbered, field_of}
-use Rattle.text.specs.Operands.{and_then, field_first, number_first, no_more, one_field, two_fields, three_fields, one_number, field_and_number, line_of, line_read}
+use Rattle.text.specs.Operands.{and_then, operand, no_more, last, two, field_first, one_field, two_fields, three_fields, field_and_number, line_of, line_read}
 use Rattle.text.specs.Reading.{Reading, refused, preceded, entered, read_lines, reading}
 use Rattle.text.specs.TextLines.{text_lines}
 use Rattle.text.specs.Tokens.{Piece, rest_of, tokens}
@@ -73,54 +74,59 @@ rest_below : (ms : List Meaning) → AllByRecursion MeaningBelow ms → AllByRec
 rest_below [] h = tt
 rest_below (m ∷ ms) h = h.1
 
-module _ (n : ℕ) where
-  field_first_lem : (ms : List Meaning) → AllByRecursion MeaningBelow ms → IfOk (field_first n ms) Known
-  field_first_lem [] h = tt
-  field_first_lem (word k ∷ ms) h = tt
-  field_first_lem (field f ∷ ms) h = h.0
-  field_first_lem (number k ∷ ms) h = tt
-  field_first_lem (junk ∷ ms) h = tt
+-- An operand of that kind has P.
+record Below {A : Type 0} (kind : Meaning → Option A) (P : A → Type 0) : Type 0 where
+  pub holds : (m : Meaning) → MeaningBelow m → Given P (kind m)
 
-  number_first_lem : (ms : List Meaning) → AllByRecursion MeaningBelow ms → IfOk (number_first n ms) Short
-  number_first_lem [] h = tt
-  number_first_lem (word k ∷ ms) h = tt
-  number_first_lem (field f ∷ ms) h = tt
-  number_first_lem (number k ∷ ms) h = h.0
-  number_first_lem (junk ∷ ms) h = tt
+field_holds : (m : Meaning) → MeaningBelow m → Given Known (as_field m)
+field_holds (word k) h = tt
+field_holds (field f) h = h
+field_holds (number k) h = tt
+field_holds junk h = tt
+
+number_holds : (m : Meaning) → MeaningBelow m → Given Short (as_number m)
+number_holds (word k) h = tt
+number_holds (field f) h = tt
+number_holds (number k) h = h
+number_holds junk h = tt
+
+fields : Below as_field Known
+fields = record { holds = field_holds }
+
+numbers : Below as_number Short
+numbers = record { holds = number_holds }
+
+module _ (n : ℕ) where
+  some_made : {A : Type 0} (P : A → Type 0) (o : Option A) (d : ReadFault) → Given P o → IfOk (ok_or o d) P
+  some_made P None d h = tt
+  some_made P (Some a) d h = h
+
+  operand_below : {A : Type 0} {kind : Meaning → Option A} {P : A → Type 0} → Below kind P → (ms : List Meaning) → AllByRecursion MeaningBelow ms → IfOk (operand kind n ms) P
+  operand_below b [] h = tt
+  operand_below {A} {kind} {P} b (m ∷ ms) h = some_made P (kind m) (fault.BadOperand n) (b.holds m h.0)
 
   no_more_lem : {A : Type 0} (P : A → Type 0) (a : A) (ms : List Meaning) → P a → IfOk (and_then (no_more n ms) (λ _. Ok a)) P
   no_more_lem P a [] h = h
   no_more_lem P a (m ∷ ms) h = tt
 
-  one_field_lem : (ms : List Meaning) → AllByRecursion MeaningBelow ms → IfOk (one_field n ms) Known
-  one_field_lem ms h = then_made Known _ (field_first n ms) _ (field_first_lem ms h) (λ a b. no_more_lem Known a (rest_of ms) b)
+  last_below : {A : Type 0} {kind : Meaning → Option A} {P : A → Type 0} → Below kind P → (ms : List Meaning) → AllByRecursion MeaningBelow ms → IfOk (last kind n ms) P
+  last_below {A} {kind} {P} b ms h = then_made P _ (operand kind n ms) _ (operand_below b ms h) (λ a p. no_more_lem P a (rest_of ms) p)
 
-  abbrev TwoBelow : Field × Field → Type 0
-  TwoBelow p = (under 96 p.0 && under 96 p.1) ≡ true
+  abbrev Both : {A B : Type 0} → (A → Type 0) → (B → Type 0) → A × B → Type 0
+  Both P Q p = P p.0 × Q p.1
 
-  two_fields_lem : (ms : List Meaning) → AllByRecursion MeaningBelow ms → IfOk (two_fields n ms) TwoBelow
-  two_fields_lem ms h =
-      then_made Known TwoBelow (field_first n ms) _ (field_first_lem ms h)
-      (λ d b. then_made Known TwoBelow (one_field n (rest_of ms)) _ (one_field_lem (rest_of ms) (rest_below ms h)) (λ a c. and_from _ _ b c))
+  two_below : {A B : Type 0} {first : Meaning → Option A} {second : Meaning → Option B} {P : A → Type 0} {Q : B → Type 0} → Below first P → Below second Q → (ms : List Meaning) → AllByRecursion MeaningBelow ms → IfOk (two first second n ms) (Both P Q)
+  two_below {A} {B} {first} {second} {P} {Q} a b ms h =
+      then_made P (Both P Q) (operand first n ms) _ (operand_below a ms h)
+      (λ d p. then_made Q (Both P Q) (last second n (rest_of ms)) _ (last_below b (rest_of ms) (rest_below ms h)) (λ e q. (p, q)))
 
   abbrev ThreeBelow : Field × Field × Field → Type 0
   ThreeBelow p = under3 96 p.0 p.1 p.2 ≡ true
 
   three_fields_lem : (ms : List Meaning) → AllByRecursion MeaningBelow ms → IfOk (three_fields n ms) ThreeBelow
   three_fields_lem ms h =
-      then_made Known ThreeBelow (field_first n ms) _ (field_first_lem ms h)
-      (λ d b. then_made TwoBelow ThreeBelow (two_fields n (rest_of ms)) _ (two_fields_lem (rest_of ms) (rest_below ms h)) (λ p c. and_from _ _ b c))
-
-  one_number_lem : (ms : List Meaning) → AllByRecursion MeaningBelow ms → IfOk (one_number n ms) Short
-  one_number_lem ms h = then_made Short Short (number_first n ms) _ (number_first_lem ms h) (λ k b. no_more_lem Short k (rest_of ms) b)
-
-  abbrev PairBelow : Field × ℕ → Type 0
-  PairBelow p = Known p.0 × Short p.1
-
-  field_and_number_lem : (ms : List Meaning) → AllByRecursion MeaningBelow ms → IfOk (field_and_number n ms) PairBelow
-  field_and_number_lem ms h =
-      then_made Known PairBelow (field_first n ms) _ (field_first_lem ms h)
-      (λ d b. then_made Short PairBelow (one_number n (rest_of ms)) _ (one_number_lem (rest_of ms) (rest_below ms h)) (λ k c. (b, c)))
+      then_made Known ThreeBelow (field_first n ms) _ (operand_below fields ms h)
+      (λ d b. then_made (Both Known Known) ThreeBelow (two_fields n (rest_of ms)) _ (two_below fields fields (rest_of ms) (rest_below ms h)) (λ p c. and_from _ _ b (and_from _ _ c.0 c.1)))
 
   applied-below : (k : Binary) (d a b : Field) → under3 96 d a b ≡ true → LineBelow 96 (line.Operation (applied k d a b))
   applied-below binary.Add d a b h = (h, lit< tt)
@@ -133,16 +139,16 @@ module _ (n : ℕ) where
   applied-below binary.Less d a b h = (h, lit< tt)
 
   line_below : (k : Keyword) (ms : List Meaning) → AllByRecursion MeaningBelow ms → IfOk (line_of n k ms) (LineBelow 96)
-  line_below key.Word ms h = then_made PairBelow (LineBelow 96) (field_and_number n ms) _ (field_and_number_lem ms h) (λ p b. b)
-  line_below key.Copy ms h = then_made TwoBelow (LineBelow 96) (two_fields n ms) _ (two_fields_lem ms h) (λ p b. (b, lit< tt))
-  line_below key.Not ms h = then_made TwoBelow (LineBelow 96) (two_fields n ms) _ (two_fields_lem ms h) (λ p b. (b, lit< tt))
+  line_below key.Word ms h = then_made (Both Known Short) (LineBelow 96) (field_and_number n ms) _ (two_below fields numbers ms h) (λ p b. b)
+  line_below key.Copy ms h = then_made (Both Known Known) (LineBelow 96) (two_fields n ms) _ (two_below fields fields ms h) (λ p b. (and_from _ _ b.0 b.1, lit< tt))
+  line_below key.Not ms h = then_made (Both Known Known) (LineBelow 96) (two_fields n ms) _ (two_below fields fields ms h) (λ p b. (and_from _ _ b.0 b.1, lit< tt))
   line_below (key.Binary k) ms h = then_made ThreeBelow (LineBelow 96) (three_fields n ms) _ (three_fields_lem ms h) (λ p b. applied-below k p.0 p.1 p.2 b)
-  line_below key.If ms h = then_made Known (LineBelow 96) (one_field n ms) _ (one_field_lem ms h) (λ a b. b)
+  line_below key.If ms h = then_made Known (LineBelow 96) (one_field n ms) _ (last_below fields ms h) (λ a b. b)
   line_below key.Else ms h = no_more_lem (LineBelow 96) _ ms tt
   line_below key.End ms h = no_more_lem (LineBelow 96) _ ms tt
-  line_below key.Loop ms h = then_made PairBelow (LineBelow 96) (field_and_number n ms) _ (field_and_number_lem ms h) (λ p b. b)
+  line_below key.Loop ms h = then_made (Both Known Short) (LineBelow 96) (field_and_number n ms) _ (two_below fields numbers ms h) (λ p b. b)
   line_below key.Break ms h = no_more_lem (LineBelow 96) _ ms tt
-  line_below key.Turn ms h = then_made PairBelow (LineBelow 96) (field_and_number n ms) _ (field_and_number_lem ms h) (λ p b. b)
+  line_below key.Turn ms h = then_made (Both Known Short) (LineBelow 96) (field_and_number n ms) _ (two_below fields numbers ms h) (λ p b. b)
 
   some_below : (k : Keyword) (ms : List Meaning) → AllByRecursion MeaningBelow ms → IfOk (and_then (line_of n k ms) (λ x. Ok (Some x))) (Given (LineBelow 96))
   some_below k ms h = then_made (LineBelow 96) (Given (LineBelow 96)) (line_of n k ms) _ (line_below k ms h) (λ x b. b)
@@ -179,3 +185,6 @@ limited text entries =
     cond_both (ltb 65536 (length text)) (refused fault.TextTooLong) (read_lines (min entries 2400) 1 (text_lines text)) (Limited 2400)
     (λ e. record { below = tt; few = omega arith })
     (λ e. let r = lines_limited (min entries 2400) 1 (text_lines text) in record { below = r.below; few = omega (arith, r.few) })
+
+pub limited_below : (text : List ℕ) (entries : ℕ) → TableBelow 96 (reading text entries).lines
+limited_below text entries = (limited text entries).below

@@ -5,18 +5,24 @@ use Rattle.std.proofs.lemmas.Bool.{cases_Bool, or_left, and_right, not_from_true
 use Rattle.text.specs.Meanings.{meaning, meanings}
 use Rattle.text.specs.TextLines.{ends_line, in_front, text_lines, line_length, line_size, next_line}
 use Rattle.text.specs.Tokens.{Piece, is_blank, ends_tokens, is_solid, solid_first, lengthened, tokens, tokens_at, some_token}
+use Rattle.text.proofs.Lexing.{chosen}
+use Rattle.text.proofs.Runs.{length_cons}
 
 -- The first line, and the others.
 abbrev parted : List ℕ → List (List ℕ)
 parted bs = take (line_length bs) bs ∷ text_lines (drop (line_size bs) bs)
 
 lines_first : (b : ℕ) (bs : List ℕ) → text_lines (b ∷ bs) ≡ parted (b ∷ bs)
-lines_first b [] = by_end (ends_line b)
+lines_first b [] =
+    by_end (ends_line b)
+    ∙ sym (ap (λ n. take n (b ∷ []) ∷ text_lines (drop (line_size (b ∷ [])) (b ∷ []))) (length_cons b [] (ends_line b) refl))
   where
     by_end : (t : Bool) → cond t ([] ∷ []) ((b ∷ []) ∷ []) ≡ take (cond t 0 1) (b ∷ []) ∷ text_lines (drop (cond t 1 1) (b ∷ []))
     by_end true = refl
     by_end false = refl
-lines_first b (c ∷ cs) = by_end (ends_line b) (lines_first c cs)
+lines_first b (c ∷ cs) =
+    by_end (ends_line b) (lines_first c cs)
+    ∙ sym (ap (λ n. take n (b ∷ c ∷ cs) ∷ text_lines (drop (line_size (b ∷ c ∷ cs)) (b ∷ c ∷ cs))) (length_cons b (c ∷ cs) (ends_line b) refl))
   where
     by_end : (t : Bool) → text_lines (c ∷ cs) ≡ parted (c ∷ cs) → cond t ([] ∷ text_lines (c ∷ cs)) (in_front b (text_lines (c ∷ cs))) ≡ take (cond t 0 (suc (line_length (c ∷ cs)))) (b ∷ c ∷ cs) ∷ text_lines (drop (cond t 1 (suc (line_size (c ∷ cs)))) (b ∷ c ∷ cs))
     by_end true e = refl
@@ -42,21 +48,18 @@ end_not_solid b e = and_right _ _ (not_from_true _ (or_left _ _ e))
 solid_first_line : (bs : List ℕ) → solid_first (take (line_length bs) bs) ≡ solid_first bs
 solid_first_line [] = refl
 solid_first_line (b ∷ bs) = ⊎_elim
-    (λ t. ap (λ u. solid_first (take (cond u 0 (suc (line_length bs))) (b ∷ bs))) t ∙ sym (end_not_solid b t))
-    (λ f. ap (λ u. solid_first (take (cond u 0 (suc (line_length bs))) (b ∷ bs))) f)
+    (λ t. ap (λ n. solid_first (take n (b ∷ bs))) (length_cons b bs true t) ∙ sym (end_not_solid b t))
+    (λ f. ap (λ n. solid_first (take n (b ∷ bs))) (length_cons b bs false f))
     (cases_Bool (ends_line b))
-
-abbrev chosen : Bool → Bool → Bool → ℕ → ℕ → List Piece → List Piece
-chosen e k s at b ts = cond e [] (cond k ts (cond s (lengthened at b ts) (record { place = at; bytes = b ∷ [] } ∷ ts)))
 
 line_tokens_lem : (at : ℕ) (bs : List ℕ) → tokens at (take (line_length bs) bs) ≡ tokens at bs
 line_tokens_lem at [] = refl
 line_tokens_lem at (b ∷ bs) = ⊎_elim
     (λ t.
-    ap (λ u. tokens at (take (cond u 0 (suc (line_length bs))) (b ∷ bs))) t
+    ap (λ n. tokens at (take n (b ∷ bs))) (length_cons b bs true t)
     ∙ sym (ap (λ u. chosen u (is_blank b) (solid_first bs) at b (tokens (at + 1) bs)) (or_left _ _ t)))
     (λ f.
-    ap (λ u. tokens at (take (cond u 0 (suc (line_length bs))) (b ∷ bs))) f
+    ap (λ n. tokens at (take n (b ∷ bs))) (length_cons b bs false f)
     ∙ ap (λ s. chosen (ends_tokens b) (is_blank b) s at b (tokens (at + 1) (take (line_length bs) bs))) (solid_first_line bs)
     ∙ ap (chosen (ends_tokens b) (is_blank b) (solid_first bs) at b) (line_tokens_lem (at + 1) bs))
     (cases_Bool (ends_line b))

@@ -2,20 +2,21 @@
 use Rattle.std.proofs.Common.{◌≡◌, ℕ, zero, suc, ◌+◌, ◌-◌, ◌≤◌, min, Bool, true, false, cond, eqb, ltb, List, [], ◌∷◌, map, length, Some, None, Ok, Err, Option, Result, sym, refl, ap, ◌∙◌, arith}
 use Rattle.std.proofs.lemmas.Bool.{eqb-false, ne_eqb, le-ltb, ltb-false}
 use Rattle.std.specs.List.{slice_get}
+use Rattle.std.specs.Option.{ok_or}
 use Rattle.lines.specs.declared.field.Field.{Field}
 use Rattle.lines.specs.declared.line.Line.{Line}
 use Rattle.lines.specs.declared.line.Line.TheVariants as line
 use Rattle.lines.specs.declared.operation.Operation.{Operation}
 use Rattle.lines.specs.declared.operation.Operation.TheVariants as op
 use Rattle.text.specs.Keywords.{applied}
-use Rattle.text.specs.Meanings.{Meaning, word, field, number, junk, meanings}
+use Rattle.text.specs.Meanings.{Meaning, word, field, number, junk, as_field, as_number, meanings}
 use Rattle.text.specs.TextLines.{text_lines}
 use Rattle.text.specs.Tokens.{Piece, tokens, some_token, rest_of}
 use Rattle.text.specs.declared.keyword.Binary.{Binary}
 use Rattle.text.specs.declared.keyword.Binary.TheVariants as binary
 use Rattle.text.specs.declared.keyword.Keyword.{Keyword}
 use Rattle.text.specs.declared.keyword.Keyword.TheVariants as key
-use Rattle.text.specs.Operands.{and_then, field_first, number_first, no_more, one_field, two_fields, three_fields, one_number, field_and_number, line_of, line_read}
+use Rattle.text.specs.Operands.{and_then, operand, no_more, last, two, one_field, two_fields, three_fields, field_and_number, line_of, line_read}
 use Rattle.text.specs.Reading.{Reading, refused, preceded, entered, read_lines, token_lines}
 use Rattle.text.specs.RuleTexts.{operation_tokens, line_tokens, tokenized, Writes, AcceptsExactly, ReadFrom, ReadFromText}
 use Rattle.text.specs.declared.fault.ReadFault.{ReadFault}
@@ -50,56 +51,61 @@ module _ {A B : Type 0} (next : A → Result B ReadFault) (b : B) where
   then_told (Ok a) e = (a, refl, e)
   then_told (Err d) e = absurd (grind arith)
 
+-- A kind of operand, and the token that writes one.
+record Writing {A : Type 0} (kind : Meaning → Option A) (token : A → Meaning) : Type 0 where
+  pub only : (m : Meaning) (a : A) → kind m ≡ Some a → m ≡ token a
+
+field_only : (m : Meaning) (a : Field) → as_field m ≡ Some a → m ≡ field a
+field_only (word w) a e = absurd (grind arith)
+field_only (field f) a e = cc
+field_only (number k) a e = absurd (grind arith)
+field_only junk a e = absurd (grind arith)
+
+number_only : (m : Meaning) (a : ℕ) → as_number m ≡ Some a → m ≡ number a
+number_only (word w) a e = absurd (grind arith)
+number_only (field f) a e = absurd (grind arith)
+number_only (number k) a e = cc
+number_only junk a e = absurd (grind arith)
+
+fields : Writing as_field field
+fields = record { only = field_only }
+
+numbers : Writing as_number number
+numbers = record { only = number_only }
+
 -- The tokens that are read as operands are those of the operands.
 module _ (n : ℕ) where
-  field_told : (ms : List Meaning) (a : Field) → field_first n ms ≡ Ok a → ms ≡ field a ∷ rest_of ms
-  field_told [] a e = absurd (grind arith)
-  field_told (word w ∷ ms) a e = absurd (grind arith)
-  field_told (field f ∷ ms) a e = cc
-  field_told (number k ∷ ms) a e = absurd (grind arith)
-  field_told (junk ∷ ms) a e = absurd (grind arith)
-
-  number_told : (ms : List Meaning) (a : ℕ) → number_first n ms ≡ Ok a → ms ≡ number a ∷ rest_of ms
-  number_told [] a e = absurd (grind arith)
-  number_told (word w ∷ ms) a e = absurd (grind arith)
-  number_told (field f ∷ ms) a e = absurd (grind arith)
-  number_told (number k ∷ ms) a e = cc
-  number_told (junk ∷ ms) a e = absurd (grind arith)
-
   none_told : (ms : List Meaning) (u : Unit {0}) → no_more n ms ≡ Ok u → ms ≡ []
   none_told [] u e = refl
   none_told (m ∷ ms) u e = absurd (grind arith)
 
-  -- A field, and then what q makes of the other tokens: g makes one thing of both, whose tokens are all.
-  module _ {X Y : Type 0} (q : List Meaning → Result X ReadFault) (g : Field → X → Y) (others : X → List Meaning) (all : Y → List Meaning) where
-    field_then : ((ms : List Meaning) (x : X) → q ms ≡ Ok x → ms ≡ others x) → ((a : Field) (x : X) → all (g a x) ≡ field a ∷ others x) → (ms : List Meaning) (y : Y) → and_then (field_first n ms) (λ a. and_then (q (rest_of ms)) (λ x. Ok (g a x))) ≡ Ok y → ms ≡ all y
-    field_then told made ms y e =
-        let first = then_told (λ a. and_then (q (rest_of ms)) (λ x. Ok (g a x))) y (field_first n ms) e in
+  some_told : {A : Type 0} (o : Option A) (a : A) (d : ReadFault) → ok_or o d ≡ Ok a → o ≡ Some a
+  some_told None a d e = absurd (grind arith)
+  some_told (Some b) a d e = cc
+
+  operand_told : {A : Type 0} {kind : Meaning → Option A} {token : A → Meaning} → Writing kind token → (ms : List Meaning) (a : A) → operand kind n ms ≡ Ok a → ms ≡ token a ∷ rest_of ms
+  operand_told w [] a e = absurd (grind arith)
+  operand_told {A} {kind} w (m ∷ ms) a e = ap (λ k. k ∷ ms) (w.only m a (some_told (kind m) a (fault.BadOperand n) e))
+
+  -- An operand, and then what q makes of the other tokens: g makes one thing of both, whose tokens are all.
+  module _ {A X Y : Type 0} (q : List Meaning → Result X ReadFault) (g : A → X → Y) (others : X → List Meaning) (all : Y → List Meaning) where
+    operand_then : {kind : Meaning → Option A} {token : A → Meaning} → Writing kind token → ((ms : List Meaning) (x : X) → q ms ≡ Ok x → ms ≡ others x) → ((a : A) (x : X) → all (g a x) ≡ token a ∷ others x) → (ms : List Meaning) (y : Y) → and_then (operand kind n ms) (λ a. and_then (q (rest_of ms)) (λ x. Ok (g a x))) ≡ Ok y → ms ≡ all y
+    operand_then {kind} {token} w told made ms y e =
+        let first = then_told (λ a. and_then (q (rest_of ms)) (λ x. Ok (g a x))) y (operand kind n ms) e in
         let a = first.0 in
         let second = then_told (λ x. Ok (g a x)) y (q (rest_of ms)) first.2 in
         let x = second.0 in
         let same : g a x ≡ y = cc (second.2) in
-        field_told ms a first.1 ∙ ap (λ ks. field a ∷ ks) (told (rest_of ms) x second.1) ∙ sym (made a x) ∙ ap all same
+        operand_told w ms a first.1 ∙ ap (λ ks. token a ∷ ks) (told (rest_of ms) x second.1) ∙ sym (made a x) ∙ ap all same
 
-  one_told : (ms : List Meaning) (a : Field) → one_field n ms ≡ Ok a → ms ≡ field a ∷ []
-  one_told = field_then (no_more n) (λ a u. a) (λ u. []) (λ a. field a ∷ []) none_told (λ a u. refl)
+  last_told : {A : Type 0} {kind : Meaning → Option A} {token : A → Meaning} → Writing kind token → (ms : List Meaning) (a : A) → last kind n ms ≡ Ok a → ms ≡ token a ∷ []
+  last_told {A} {kind} {token} w = operand_then (no_more n) (λ a u. a) (λ u. []) (λ a. token a ∷ []) w none_told (λ a u. refl)
 
-  two_told : (ms : List Meaning) (p : Field × Field) → two_fields n ms ≡ Ok p → ms ≡ field p.0 ∷ field p.1 ∷ []
-  two_told = field_then (one_field n) (λ d a. (d, a)) (λ a. field a ∷ []) (λ p. field p.0 ∷ field p.1 ∷ []) one_told (λ d a. refl)
+  two_told : {A B : Type 0} {first : Meaning → Option A} {second : Meaning → Option B} {a : A → Meaning} {b : B → Meaning} → Writing first a → Writing second b → (ms : List Meaning) (p : A × B) → two first second n ms ≡ Ok p → ms ≡ a p.0 ∷ b p.1 ∷ []
+  two_told {A} {B} {first} {second} {a} {b} v w = operand_then (last second n) (λ x y. (x, y)) (λ y. b y ∷ []) (λ p. a p.0 ∷ b p.1 ∷ []) v (last_told w) (λ x y. refl)
 
   three_told : (ms : List Meaning) (p : Field × Field × Field) → three_fields n ms ≡ Ok p → ms ≡ field p.0 ∷ field p.1 ∷ field p.2 ∷ []
-  three_told = field_then (two_fields n) (λ d p. (d, p.0, p.1)) (λ p. field p.0 ∷ field p.1 ∷ []) (λ p. field p.0 ∷ field p.1 ∷ field p.2 ∷ []) two_told (λ d p. refl)
-
-  one_number_told : (ms : List Meaning) (k : ℕ) → one_number n ms ≡ Ok k → ms ≡ number k ∷ []
-  one_number_told ms k e =
-      let first = then_told (λ j. and_then (no_more n (rest_of ms)) (λ u. Ok j)) k (number_first n ms) e in
-      let j = first.0 in
-      let second = then_told (λ u. Ok j) k (no_more n (rest_of ms)) first.2 in
-      let same : j ≡ k = cc (second.2) in
-      number_told ms j first.1 ∙ ap (λ ks. number j ∷ ks) (none_told (rest_of ms) second.0 second.1) ∙ ap (λ i. number i ∷ []) same
-
-  field_number_told : (ms : List Meaning) (p : Field × ℕ) → field_and_number n ms ≡ Ok p → ms ≡ field p.0 ∷ number p.1 ∷ []
-  field_number_told = field_then (one_number n) (λ d k. (d, k)) (λ k. number k ∷ []) (λ p. field p.0 ∷ number p.1 ∷ []) one_number_told (λ d k. refl)
+  three_told = operand_then (two_fields n) (λ d p. (d, p.0, p.1)) (λ p. field p.0 ∷ field p.1 ∷ []) (λ p. field p.0 ∷ field p.1 ∷ field p.2 ∷ []) fields (two_told fields fields) (λ d p. refl)
 
 -- A line word and the tokens after it are those of the line that they are read as.
 applied-tokens : (o : Binary) (d a b : Field) → operation_tokens (applied o d a b) ≡ word (key.Binary o) ∷ field d ∷ field a ∷ field b ∷ []
@@ -120,16 +126,16 @@ module _ {X : Type 0} (w : Keyword) (make : X → Line) (operands : X → List M
       ap (λ ks. word w ∷ ks) (told p.0 p.1) ∙ sym (made p.0) ∙ ap line_tokens same
 
 word_told : (n : ℕ) (w : Keyword) (ms : List Meaning) (l : Line) → line_of n w ms ≡ Ok l → word w ∷ ms ≡ line_tokens l
-word_told n key.Word ms = word_then key.Word (λ p. line.Operation (op.Word p.0 p.1)) (λ p. field p.0 ∷ number p.1 ∷ []) (λ p. refl) ms (field_and_number n ms) (field_number_told n ms)
-word_told n key.Copy ms = word_then key.Copy (λ p. line.Operation (op.Copy p.0 p.1)) (λ p. field p.0 ∷ field p.1 ∷ []) (λ p. refl) ms (two_fields n ms) (two_told n ms)
-word_told n key.Not ms = word_then key.Not (λ p. line.Operation (op.Not p.0 p.1)) (λ p. field p.0 ∷ field p.1 ∷ []) (λ p. refl) ms (two_fields n ms) (two_told n ms)
+word_told n key.Word ms = word_then key.Word (λ p. line.Operation (op.Word p.0 p.1)) (λ p. field p.0 ∷ number p.1 ∷ []) (λ p. refl) ms (field_and_number n ms) (two_told n fields numbers ms)
+word_told n key.Copy ms = word_then key.Copy (λ p. line.Operation (op.Copy p.0 p.1)) (λ p. field p.0 ∷ field p.1 ∷ []) (λ p. refl) ms (two_fields n ms) (two_told n fields fields ms)
+word_told n key.Not ms = word_then key.Not (λ p. line.Operation (op.Not p.0 p.1)) (λ p. field p.0 ∷ field p.1 ∷ []) (λ p. refl) ms (two_fields n ms) (two_told n fields fields ms)
 word_told n (key.Binary k) ms = word_then (key.Binary k) (λ p. line.Operation (applied k p.0 p.1 p.2)) (λ p. field p.0 ∷ field p.1 ∷ field p.2 ∷ []) (λ p. applied-tokens k p.0 p.1 p.2) ms (three_fields n ms) (three_told n ms)
-word_told n key.If ms = word_then key.If line.If (λ a. field a ∷ []) (λ a. refl) ms (one_field n ms) (one_told n ms)
+word_told n key.If ms = word_then key.If line.If (λ a. field a ∷ []) (λ a. refl) ms (one_field n ms) (last_told n fields ms)
 word_told n key.Else ms = word_then key.Else (λ u. line.Else) (λ u. []) (λ u. refl) ms (no_more n ms) (none_told n ms)
 word_told n key.End ms = word_then key.End (λ u. line.End) (λ u. []) (λ u. refl) ms (no_more n ms) (none_told n ms)
-word_told n key.Loop ms = word_then key.Loop (λ p. line.Loop p.0 p.1) (λ p. field p.0 ∷ number p.1 ∷ []) (λ p. refl) ms (field_and_number n ms) (field_number_told n ms)
+word_told n key.Loop ms = word_then key.Loop (λ p. line.Loop p.0 p.1) (λ p. field p.0 ∷ number p.1 ∷ []) (λ p. refl) ms (field_and_number n ms) (two_told n fields numbers ms)
 word_told n key.Break ms = word_then key.Break (λ u. line.Break) (λ u. []) (λ u. refl) ms (no_more n ms) (none_told n ms)
-word_told n key.Turn ms = word_then key.Turn (λ p. line.Turn p.0 p.1) (λ p. field p.0 ∷ number p.1 ∷ []) (λ p. refl) ms (field_and_number n ms) (field_number_told n ms)
+word_told n key.Turn ms = word_then key.Turn (λ p. line.Turn p.0 p.1) (λ p. field p.0 ∷ number p.1 ∷ []) (λ p. refl) ms (field_and_number n ms) (two_told n fields numbers ms)
 
 -- What a text line that is read says of its tokens: none if it gives no line, and else those of the line.
 abbrev Told : List Meaning → Option Line → Type 0

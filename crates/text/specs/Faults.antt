@@ -1,5 +1,5 @@
--- The numbers and places of the reader's refusals.
-use Rattle.std.specs.Prelude.{ℕ}
+-- The numbers, places and sentences of the reader's refusals.
+use Rattle.std.specs.Prelude.{ℕ, List, codes}
 use Rattle.text.specs.declared.fault.ReadFault.{ReadFault}
 use Rattle.text.specs.declared.fault.ReadFault.TheVariants as fault
 
@@ -20,3 +20,12 @@ read_place (fault.MissingOperand line) = line
 read_place (fault.BadOperand line) = line
 read_place (fault.ExtraToken line) = line
 read_place (fault.TooManyLines line) = line
+
+-- What is wrong with a text that is not read, in a sentence.
+abbrev pub read_sentence : ReadFault → List ℕ
+read_sentence fault.TextTooLong = codes "the text has more than 65,536 bytes"
+read_sentence (fault.NoLineWord line) = codes "the line does not begin with a line word"
+read_sentence (fault.MissingOperand line) = codes "an operand is missing"
+read_sentence (fault.BadOperand line) = codes "an operand is not what the line word asks for, is malformed or is too large"
+read_sentence (fault.ExtraToken line) = codes "there is a token too many"
+read_sentence (fault.TooManyLines line) = codes "the table has no room for this line"

@@ -20,40 +20,55 @@ abbrev pub and_then : {A B : Type 0} → Result A ReadFault → (A → Result B 
 and_then (Ok a) next = next a
 and_then (Err e) next = Err e
 
--- In all that follows n is the number of the text line. The first token has to be a field.
-abbrev pub field_first : ℕ → List Meaning → Result Field ReadFault
-field_first n [] = Err (fault.MissingOperand n)
-field_first n (m ∷ ms) = ok_or (as_field m) (fault.BadOperand n)
-
--- The first token has to be a number.
-abbrev pub number_first : ℕ → List Meaning → Result ℕ ReadFault
-number_first n [] = Err (fault.MissingOperand n)
-number_first n (m ∷ ms) = ok_or (as_number m) (fault.BadOperand n)
+-- In all that follows n is the number of the text line, and a kind gives the operand that a meaning is, if it is one of that kind. The first token has to be an operand.
+abbrev pub operand : {A : Type 0} → (Meaning → Option A) → ℕ → List Meaning → Result A ReadFault
+operand kind n [] = Err (fault.MissingOperand n)
+operand kind n (m ∷ ms) = ok_or (kind m) (fault.BadOperand n)
 
 -- No token may be left.
 abbrev pub no_more : ℕ → List Meaning → Result (Unit {0}) ReadFault
 no_more n [] = Ok tt
 no_more n (m ∷ ms) = Err (fault.ExtraToken n)
 
+-- One operand and nothing else.
+abbrev pub last : {A : Type 0} → (Meaning → Option A) → ℕ → List Meaning → Result A ReadFault
+last kind n ms = and_then (operand kind n ms) (λ a. and_then (no_more n (rest_of ms)) (λ _. Ok a))
+
+-- Two operands and nothing else.
+abbrev pub two : {A B : Type 0} → (Meaning → Option A) → (Meaning → Option B) → ℕ → List Meaning → Result (A × B) ReadFault
+two first second n ms = and_then (operand first n ms) (λ a. and_then (last second n (rest_of ms)) (λ b. Ok (a, b)))
+
+-- Three operands and nothing else.
+abbrev pub three : {A B C : Type 0} → (Meaning → Option A) → (Meaning → Option B) → (Meaning → Option C) → ℕ → List Meaning → Result (A × B × C) ReadFault
+three first second third n ms = and_then (operand first n ms) (λ a. and_then (two second third n (rest_of ms)) (λ p. Ok (a, p.0, p.1)))
+
+-- The first token has to be a field.
+abbrev pub field_first : ℕ → List Meaning → Result Field ReadFault
+field_first n ms = operand as_field n ms
+
+-- The first token has to be a number.
+abbrev pub number_first : ℕ → List Meaning → Result ℕ ReadFault
+number_first n ms = operand as_number n ms
+
 -- One field and nothing else.
 abbrev pub one_field : ℕ → List Meaning → Result Field ReadFault
-one_field n ms = and_then (field_first n ms) (λ a. and_then (no_more n (rest_of ms)) (λ _. Ok a))
+one_field n ms = last as_field n ms
 
 -- Two fields and nothing else.
 abbrev pub two_fields : ℕ → List Meaning → Result (Field × Field) ReadFault
-two_fields n ms = and_then (field_first n ms) (λ d. and_then (one_field n (rest_of ms)) (λ a. Ok (d, a)))
+two_fields n ms = two as_field as_field n ms
 
 -- Three fields and nothing else.
 abbrev pub three_fields : ℕ → List Meaning → Result (Field × Field × Field) ReadFault
-three_fields n ms = and_then (field_first n ms) (λ d. and_then (two_fields n (rest_of ms)) (λ p. Ok (d, p.0, p.1)))
+three_fields n ms = three as_field as_field as_field n ms
 
 -- A number and nothing else.
 abbrev pub one_number : ℕ → List Meaning → Result ℕ ReadFault
-one_number n ms = and_then (number_first n ms) (λ k. and_then (no_more n (rest_of ms)) (λ _. Ok k))
+one_number n ms = last as_number n ms
 
 -- A field, a number and nothing else.
 abbrev pub field_and_number : ℕ → List Meaning → Result (Field × ℕ) ReadFault
-field_and_number n ms = and_then (field_first n ms) (λ d. and_then (one_number n (rest_of ms)) (λ k. Ok (d, k)))
+field_and_number n ms = two as_field as_number n ms
 
 -- A line whose line word stands alone.
 abbrev pub alone : ℕ → Line → List Meaning → Result Line ReadFault
@@ -81,7 +96,8 @@ line_read n (m ∷ ms) = and_then (ok_or (as_word m) (fault.NoLineWord n)) (λ k
 abbrev pub left : Reader → List Meaning
 left r = meanings (tokens_at r.text.now r.at)
 
--- A reader that went on within its line: it has the same text, and the same line comes next.
+-- A reader that went on within its line: it has the same text, its line has the same number, and the same line comes next.
 pub record SameLine (r s : Reader) : Type 0 where
   pub text : s.text.now ≡ r.text.now
+  pub number : s.number ≡ r.number
   pub next : next_line r.text.now s.at ≡ next_line r.text.now r.at

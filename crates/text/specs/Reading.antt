@@ -8,6 +8,7 @@ use Rattle.text.specs.TextLines.{text_lines}
 use Rattle.text.specs.Tokens.{tokens, some_token}
 use Rattle.text.specs.declared.fault.ReadFault.{ReadFault}
 use Rattle.text.specs.declared.fault.ReadFault.TheVariants as fault
+use Rattle.text.specs.declared.reader.Reader.{Reader}
 
 -- What reading gives: the lines before the first fault, and the fault, if there is one.
 pub record Reading : Type 0 where
@@ -58,3 +59,21 @@ token_lines n (l ∷ ls) = cond (some_token (tokens 0 l)) (n ∷ token_lines (n 
 -- The number of the text line that writes table line k, counted from 0: each text line with a token writes one.
 abbrev pub written_by : List ℕ → ℕ → Option ℕ
 written_by text k = slice_get (token_lines 1 (text_lines text)) k
+
+-- The lines that a reader still has, from its place on.
+abbrev pub lines_left : Reader → List (List ℕ)
+lines_left r = text_lines (drop r.at r.text.now)
+
+-- What they give, read into a table with room for so many lines.
+abbrev pub unread : ℕ → Reader → Reading
+unread room r = read_lines room r.number (lines_left r)
+
+-- The same from the first of them on that writes a line, where this line and its number are found, and else a fault or nothing.
+abbrev pub taken : ℕ → Result (Option (ℕ × Line)) ReadFault → (ℕ → Reading) → Reading
+taken room (Err e) rest = refused e
+taken room (Ok None) rest = record { lines = []; fault = None }
+taken room (Ok (Some p)) rest = entered room p.0 (Ok (Some p.1)) rest
+
+-- The numbers of those lines that a reader still has which have a token.
+abbrev pub token_lines_left : Reader → List ℕ
+token_lines_left r = token_lines r.number (lines_left r)

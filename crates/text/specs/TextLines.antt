@@ -1,7 +1,7 @@
 -- The lines of a text of bytes.
-use Rattle.std.specs.Prelude.{◌≡◌, ℕ, zero, suc, ◌+◌, ◌-◌, ◌<◌, Bool, cond, ◌⊎◌, List, [], ◌∷◌, ◌++◌, length, take, drop, Some, None, Option, ◌==◌, ◌≢◌}
+use Rattle.std.specs.Prelude.{◌≡◌, ℕ, zero, suc, ◌+◌, ◌-◌, ◌<◌, Bool, cond, ◌⊎◌, List, [], ◌∷◌, ◌++◌, length, take, drop, Some, None, Option, ◌==◌, nat_lt, ◌≢◌}
 use Rattle.std.specs.Borrow.{Bor}
-use Rattle.std.specs.List.{AllByRecursion, slice_get}
+use Rattle.std.specs.List.{AllByRecursion, position_or_len, slice_get}
 
 -- Byte 10 ends a line.
 abbrev pub ends_line : ℕ → Bool
@@ -44,13 +44,16 @@ line_start text number = sizes (take (number - 1) (text_lines text))
 
 -- How many bytes the first line has, without its end.
 abbrev pub line_length : List ℕ → ℕ
-line_length [] = 0
-line_length (b ∷ bs) = cond (ends_line b) 0 (suc (line_length bs))
+line_length bs = position_or_len ends_line bs
 
 -- How many bytes the first line has, with its end.
 abbrev pub line_size : List ℕ → ℕ
 line_size [] = 0
 line_size (b ∷ bs) = cond (ends_line b) 1 (suc (line_size bs))
+
+-- Whether byte 10 stands behind the line at a place.
+abbrev pub has_end : List ℕ → ℕ → Bool
+has_end text at = nat_lt (at + line_length (drop at text)) (length text)
 
 -- Where the line after the one at a place begins, or the text ends.
 abbrev pub next_line : List ℕ → ℕ → ℕ

@@ -1,5 +1,6 @@
 -- The tokens of a line.
-use Rattle.std.specs.Prelude.{◌≡◌, ℕ, suc, ◌+◌, Bool, true, false, cond, not, ◌&&◌, ◌||◌, List, [], ◌∷◌, length, take, drop, Some, None, Option, ◌==◌}
+use Rattle.std.specs.Prelude.{◌≡◌, ℕ, ◌+◌, Bool, true, false, cond, not, ◌&&◌, ◌||◌, List, [], ◌∷◌, length, take, drop, Some, None, Option, ◌==◌}
+use Rattle.std.specs.List.{prefix_len}
 use Rattle.text.specs.TextLines.{ends_line}
 
 -- Byte 32 stands between tokens.
@@ -63,13 +64,11 @@ tokens_at text at = tokens at (drop at text)
 
 -- How many bytes in front are blank.
 abbrev pub blanks : List ℕ → ℕ
-blanks [] = 0
-blanks (b ∷ bs) = cond (is_blank b) (suc (blanks bs)) 0
+blanks bs = prefix_len is_blank bs
 
 -- How many bytes in front are solid.
 abbrev pub solids : List ℕ → ℕ
-solids [] = 0
-solids (b ∷ bs) = cond (is_solid b) (suc (solids bs)) 0
+solids bs = prefix_len is_solid bs
 
 -- The place after the first of the tokens at a place, or after the blanks where there is none.
 abbrev pub after_first : List ℕ → ℕ → List Piece → ℕ

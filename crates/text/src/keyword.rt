@@ -1,12 +1,11 @@
 ghost use Rattle.std.specs.Prelude.{◌≡◌};
-ghost use Rattle.std.specs.Str.{bytes_eq};
-ghost use Rattle.text.specs.Keywords.{binary_of, keyword_of, applied};
+ghost use Rattle.text.specs.Keywords.{keyword_of, applied};
 
 use lines::field::Field;
 use lines::operation::Operation;
 
 /// The line word of an operation with two operands.
-#[derive(Clone, Copy)]
+#[derive(Clone, Copy, PartialEq, Eq, Debug)]
 pub enum Binary {
     Add,
     Sub,
@@ -19,7 +18,7 @@ pub enum Binary {
 }
 
 /// A line word.
-#[derive(Clone, Copy)]
+#[derive(Clone, Copy, PartialEq, Eq, Debug)]
 pub enum Keyword {
     Word,
     Copy,
@@ -34,31 +33,6 @@ pub enum Keyword {
 }
 
 impl Binary {
-    /// The line word that the bytes spell.
-    pub(crate) fn from_bytes(part: &[u8]) -> Option<Binary>
-        ensures { result ≡ binary_of part.now }
-    {
-        if is(part, b"add") {
-            Some(Binary::Add)
-        } else if is(part, b"sub") {
-            Some(Binary::Sub)
-        } else if is(part, b"mul") {
-            Some(Binary::Mul)
-        } else if is(part, b"and") {
-            Some(Binary::And)
-        } else if is(part, b"or") {
-            Some(Binary::Or)
-        } else if is(part, b"xor") {
-            Some(Binary::Xor)
-        } else if is(part, b"same") {
-            Some(Binary::Same)
-        } else if is(part, b"less") {
-            Some(Binary::Less)
-        } else {
-            None
-        }
-    }
-
     /// The operation on these fields.
     pub(crate) fn apply(self, d: Field, a: Field, b: Field) -> Operation
         ensures { result ≡ applied self d a b }
@@ -78,37 +52,29 @@ impl Binary {
 
 impl Keyword {
     /// The line word that the bytes spell.
+    // No `TryFrom`: its error would have nothing to say.
     pub(crate) fn from_bytes(part: &[u8]) -> Option<Keyword>
         ensures { result ≡ keyword_of part.now }
     {
-        if is(part, b"word") {
-            Some(Keyword::Word)
-        } else if is(part, b"copy") {
-            Some(Keyword::Copy)
-        } else if is(part, b"not") {
-            Some(Keyword::Not)
-        } else if is(part, b"if") {
-            Some(Keyword::If)
-        } else if is(part, b"else") {
-            Some(Keyword::Else)
-        } else if is(part, b"end") {
-            Some(Keyword::End)
-        } else if is(part, b"loop") {
-            Some(Keyword::Loop)
-        } else if is(part, b"break") {
-            Some(Keyword::Break)
-        } else if is(part, b"turn") {
-            Some(Keyword::Turn)
-        } else if let Some(binary) = Binary::from_bytes(part) {
-            Some(Keyword::Binary(binary))
-        } else {
-            None
+        match part {
+            b"word" => Some(Keyword::Word),
+            b"copy" => Some(Keyword::Copy),
+            b"not" => Some(Keyword::Not),
+            b"add" => Some(Keyword::Binary(Binary::Add)),
+            b"sub" => Some(Keyword::Binary(Binary::Sub)),
+            b"mul" => Some(Keyword::Binary(Binary::Mul)),
+            b"and" => Some(Keyword::Binary(Binary::And)),
+            b"or" => Some(Keyword::Binary(Binary::Or)),
+            b"xor" => Some(Keyword::Binary(Binary::Xor)),
+            b"same" => Some(Keyword::Binary(Binary::Same)),
+            b"less" => Some(Keyword::Binary(Binary::Less)),
+            b"if" => Some(Keyword::If),
+            b"else" => Some(Keyword::Else),
+            b"end" => Some(Keyword::End),
+            b"loop" => Some(Keyword::Loop),
+            b"break" => Some(Keyword::Break),
+            b"turn" => Some(Keyword::Turn),
+            _ => None,
         }
     }
-}
-
-fn is(part: &[u8], word: &[u8]) -> bool
-    ensures { result ≡ bytes_eq part.now word.now }
-{
-    part == word
 }

@@ -2,6 +2,7 @@
 #![tactic(auto)]
 
 pub mod fault;
+mod from_token;
 pub mod keyword;
 mod line_reader;
 mod numeral;

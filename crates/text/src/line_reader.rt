@@ -1,153 +1,136 @@
-//! The part of the reader that makes a line of the tokens of a text line. `line` is the number of the text line, for the faults.
+//! The part of the reader that makes a line of the tokens of a text line.
 
-ghost use Rattle.std.specs.Prelude.{◌≡◌};
-ghost use Rattle.text.specs.Operands.{field_first, number_first, no_more, one_field, two_fields, three_fields, one_number, field_and_number, alone, line_of, line_read, left, SameLine};
+ghost use Rattle.std.specs.Prelude.{◌≡◌, ℕ};
+ghost use Rattle.text.specs.Operands.{operand, no_more, last, two, three, alone, line_of, line_read, left, SameLine};
+ghost use Rattle.text.specs.Reading.{unread, taken};
 ghost use Rattle.text.specs.Tokens.{rest_of};
 
 use crate::fault::ReadFault;
+use crate::from_token::FromToken;
 use crate::keyword::Keyword;
 use crate::reader::Reader;
-use lines::field::Field;
 use lines::line::Line;
 use lines::operation::Operation;
 
 impl<'a> Reader<'a> {
-    /// The next token, which has to be a field.
-    fn field(&mut self, line: usize) -> Result<Field, ReadFault>
-        ensures value { result ≡ field_first line (left self.old) }
+    /// The next token, which has to be an operand of the kind.
+    #[tactic(auto, using(crate::proofs::Taking::took_rest, crate::proofs::Taking::took_same, crate::proofs::Taking::left_none, crate::proofs::Taking::left_some))]
+    fn operand<T: FromToken>(&mut self) -> Result<T, ReadFault>
+        ensures value { result ≡ operand T.kind self.old.number (left self.old) }
         ensures rest { left self.new ≡ rest_of (left self.old) }
         ensures same { SameLine self.old self.new }
     {
-        let token = self.next_token().ok_or(ReadFault::MissingOperand(line))?;
-        token.as_field().ok_or(ReadFault::BadOperand(line))
-    }
-
-    /// The next token, which has to be a number.
-    fn number(&mut self, line: usize) -> Result<u32, ReadFault>
-        ensures value { result ≡ number_first line (left self.old) }
-        ensures rest { left self.new ≡ rest_of (left self.old) }
-        ensures same { SameLine self.old self.new }
-    {
-        let token = self.next_token().ok_or(ReadFault::MissingOperand(line))?;
-        token.as_number().ok_or(ReadFault::BadOperand(line))
+        let number = self.line_number();
+        let token = self.next_token().ok_or(ReadFault::MissingOperand(number))?;
+        T::from_token(token).ok_or(ReadFault::BadOperand(number))
     }
 
     /// The line has to end here.
-    fn no_more(&mut self, line: usize) -> Result<(), ReadFault>
-        ensures value { result ≡ no_more line (left self.old) }
+    #[tactic(auto, using(crate::proofs::Taking::took_same, crate::proofs::Taking::left_none, crate::proofs::Taking::left_some))]
+    fn no_more(&mut self) -> Result<(), ReadFault>
+        ensures value { result ≡ no_more self.old.number (left self.old) }
         ensures same { SameLine self.old self.new }
     {
+        let number = self.line_number();
         match self.next_token() {
-            Some(_) => Err(ReadFault::ExtraToken(line)),
+            Some(_) => Err(ReadFault::ExtraToken(number)),
             None => Ok(()),
         }
     }
 
-    /// One field and nothing else.
-    fn one_field(&mut self, line: usize) -> Result<Field, ReadFault>
-        ensures value { result ≡ one_field line (left self.old) }
+    /// One operand and nothing else.
+    fn last<A: FromToken>(&mut self) -> Result<A, ReadFault>
+        ensures value { result ≡ last A.kind self.old.number (left self.old) }
         ensures same { SameLine self.old self.new }
     {
-        let a = self.field(line)?;
-        self.no_more(line)?;
+        let a = self.operand()?;
+        self.no_more()?;
         Ok(a)
     }
 
-    /// Two fields and nothing else.
-    fn two_fields(&mut self, line: usize) -> Result<(Field, Field), ReadFault>
-        ensures value { result ≡ two_fields line (left self.old) }
+    /// Two operands and nothing else.
+    fn two<A: FromToken, B: FromToken>(&mut self) -> Result<(A, B), ReadFault>
+        ensures value { result ≡ two A.kind B.kind self.old.number (left self.old) }
         ensures same { SameLine self.old self.new }
     {
-        let d = self.field(line)?;
-        let a = self.one_field(line)?;
-        Ok((d, a))
+        let a = self.operand()?;
+        let b = self.last()?;
+        Ok((a, b))
     }
 
-    /// Three fields and nothing else.
-    fn three_fields(&mut self, line: usize) -> Result<(Field, Field, Field), ReadFault>
-        ensures value { result ≡ three_fields line (left self.old) }
+    /// Three operands and nothing else.
+    fn three<A: FromToken, B: FromToken, C: FromToken>(&mut self) -> Result<(A, B, C), ReadFault>
+        ensures value { result ≡ three A.kind B.kind C.kind self.old.number (left self.old) }
         ensures same { SameLine self.old self.new }
     {
-        let d = self.field(line)?;
-        let (a, b) = self.two_fields(line)?;
-        Ok((d, a, b))
-    }
-
-    /// A number and nothing else.
-    fn one_number(&mut self, line: usize) -> Result<u32, ReadFault>
-        ensures value { result ≡ one_number line (left self.old) }
-        ensures same { SameLine self.old self.new }
-    {
-        let n = self.number(line)?;
-        self.no_more(line)?;
-        Ok(n)
-    }
-
-    /// A field, a number and nothing else.
-    fn field_and_number(&mut self, line: usize) -> Result<(Field, u32), ReadFault>
-        ensures value { result ≡ field_and_number line (left self.old) }
-        ensures same { SameLine self.old self.new }
-    {
-        let d = self.field(line)?;
-        let n = self.one_number(line)?;
-        Ok((d, n))
+        let a = self.operand()?;
+        let (b, c) = self.two()?;
+        Ok((a, b, c))
     }
 
     /// The line, if no operand follows its line word.
-    fn alone(&mut self, entry: Line, line: usize) -> Result<Line, ReadFault>
-        ensures value { result ≡ alone line entry (left self.old) }
+    fn alone(&mut self, line: Line) -> Result<Line, ReadFault>
+        ensures value { result ≡ alone self.old.number line (left self.old) }
         ensures same { SameLine self.old self.new }
     {
-        self.no_more(line)?;
-        Ok(entry)
+        self.no_more()?;
+        Ok(line)
     }
 
     /// The line of a line word and the operands that follow it.
-    fn line_of(&mut self, keyword: Keyword, line: usize) -> Result<Line, ReadFault>
-        ensures value { result ≡ line_of line keyword (left self.old) }
+    fn line_of(&mut self, keyword: Keyword) -> Result<Line, ReadFault>
+        ensures value { result ≡ line_of self.old.number keyword (left self.old) }
         ensures same { SameLine self.old self.new }
     {
         match keyword {
-            Keyword::Word => {
-                let (d, n) = self.field_and_number(line)?;
-                Ok(Line::Operation(Operation::Word(d, n)))
-            }
-            Keyword::Copy => {
-                let (d, a) = self.two_fields(line)?;
-                Ok(Line::Operation(Operation::Copy(d, a)))
-            }
-            Keyword::Not => {
-                let (d, a) = self.two_fields(line)?;
-                Ok(Line::Operation(Operation::Not(d, a)))
-            }
-            Keyword::Binary(binary) => {
-                let (d, a, b) = self.three_fields(line)?;
-                Ok(Line::Operation(binary.apply(d, a, b)))
-            }
-            Keyword::If => Ok(Line::If(self.one_field(line)?)),
-            Keyword::Else => self.alone(Line::Else, line),
-            Keyword::End => self.alone(Line::End, line),
-            Keyword::Loop => {
-                let (i, n) = self.field_and_number(line)?;
-                Ok(Line::Loop(i, n))
-            }
-            Keyword::Break => self.alone(Line::Break, line),
-            Keyword::Turn => {
-                let (i, n) = self.field_and_number(line)?;
-                Ok(Line::Turn(i, n))
-            }
+            Keyword::Word => self
+                .two()
+                .map(|(d, n)| Line::Operation(Operation::Word(d, n))),
+            Keyword::Copy => self
+                .two()
+                .map(|(d, a)| Line::Operation(Operation::Copy(d, a))),
+            Keyword::Not => self
+                .two()
+                .map(|(d, a)| Line::Operation(Operation::Not(d, a))),
+            Keyword::Binary(binary) => self
+                .three()
+                .map(|(d, a, b)| Line::Operation(binary.apply(d, a, b))),
+            Keyword::If => self.last().map(Line::If),
+            Keyword::Else => self.alone(Line::Else),
+            Keyword::End => self.alone(Line::End),
+            Keyword::Loop => self.two().map(|(i, n)| Line::Loop(i, n)),
+            Keyword::Break => self.alone(Line::Break),
+            Keyword::Turn => self.two().map(|(i, n)| Line::Turn(i, n)),
         }
     }
 
     /// The line that the text line writes, or none where it has no token.
-    pub(crate) fn line(&mut self, number: usize) -> Result<Option<Line>, ReadFault>
-        ensures value { result ≡ line_read number (left self.old) }
+    #[tactic(auto, using(crate::proofs::Taking::took_rest, crate::proofs::Taking::took_same, crate::proofs::Taking::left_none, crate::proofs::Taking::left_some, crate::proofs::Taking::same_after))]
+    pub(crate) fn line(&mut self) -> Result<Option<Line>, ReadFault>
+        ensures value { result ≡ line_read self.old.number (left self.old) }
         ensures same { SameLine self.old self.new }
     {
+        let number = self.line_number();
         let Some(token) = self.next_token() else {
             return Ok(None);
         };
-        let keyword = token.as_keyword().ok_or(ReadFault::NoLineWord(number))?;
-        Ok(Some(self.line_of(keyword, number)?))
+        let keyword = Keyword::from_token(token).ok_or(ReadFault::NoLineWord(number))?;
+        Ok(Some(self.line_of(keyword)?))
+    }
+
+    /// The next line that a text line writes, with the number of this text line, past which the reader goes.
+    #[tactic(auto, using(crate::proofs::Unread::shrinks, crate::proofs::Unread::unread_fault, crate::proofs::Unread::taken_fault))]
+    pub(crate) fn next_entry(&mut self) -> Result<Option<(usize, Line)>, ReadFault>
+        ensures { (room : ℕ) → unread room self.old ≡ taken room result (λ k. unread k self.new) }
+    {
+        while !self.is_at_end() {
+            let number = self.line_number();
+            let line = self.line()?;
+            self.next_line();
+            if let Some(line) = line {
+                return Ok(Some((number, line)));
+            }
+        }
+        Ok(None)
     }
 }

@@ -1,3 +1,5 @@
+//! Numbers and fields from bytes: functions, since `u32` and `Field` are of other crates, where `TryFrom<&[u8]>` would have to stand.
+
 ghost use Rattle.std.specs.Prelude.{◌≡◌};
 ghost use Rattle.text.specs.Numerals.{digits_value, number_of, field_of};
 
@@ -6,17 +8,13 @@ use lines::field::Field;
 /// The largest number of a field.
 const LAST_FIELD: u32 = 95;
 
-/// The largest number.
-const LAST_NUMBER: u64 = 4_294_967_295;
-
 /// The number that the bytes write in decimal.
 pub(crate) fn number_of(part: &[u8]) -> Option<u32>
     ensures { result ≡ number_of part.now }
 {
-    if part.len() == 0 || part.len() > 1 && part[0] == b'0' {
-        None
-    } else {
-        digits_value(part)
+    match part {
+        [] | [b'0', _, ..] => None,
+        digits => digits_value(digits),
     }
 }
 
@@ -24,30 +22,25 @@ pub(crate) fn number_of(part: &[u8]) -> Option<u32>
 pub(crate) fn field_of(part: &[u8]) -> Option<Field>
     ensures { result ≡ field_of part.now }
 {
-    if part.len() == 0 || part[0] != b'f' {
+    let [b'f', digits @ ..] = part else {
         return None;
-    }
-    let n = number_of(&part[1..])?;
-    if n <= LAST_FIELD {
-        Some(Field(n as u8))
-    } else {
-        None
+    };
+    match number_of(digits)? {
+        n @ 0..=LAST_FIELD => Some(Field(n as u8)),
+        _ => None,
     }
 }
 
 /// The number that the bytes write if they are digits alone, leading zeros and none at all included.
+// Not `parse`, which takes a sign and is for texts of characters.
+#[tactic(auto, using(crate::proofs::Digits::value_from_start))]
 fn digits_value(part: &[u8]) -> Option<u32>
     ensures { result ≡ digits_value part.now }
 {
-    let mut n: u64 = 0;
+    let mut n = 0u32;
     for b in part {
-        if !b.is_ascii_digit() {
-            return None;
-        }
-        n = n * 10 + u64::from(*b - b'0');
-        if n > LAST_NUMBER {
-            return None;
-        }
+        let digit = (*b as char).to_digit(10)?;
+        n = n.checked_mul(10)?.checked_add(digit)?;
     }
-    Some(n as u32)
+    Some(n)
 }

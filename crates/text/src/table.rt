@@ -14,6 +14,8 @@ pub const MAX_TEXT: usize = 65_536;
 pub const MAX_LINES: usize = 2_400;
 
 /// Reads a rule text into the table, and answers how many lines it wrote. Where it refuses, the lines before the refused one are written; the entries past those written stay. The lines read keep within the limits of a text: fields below 96, numbers of 32 bits, at most 2,400 lines.
+// A count is answered, since a part of the table would keep the whole lent, and a refusal leaves lines in it too.
+#[tactic(auto, using(crate::proofs::RuleTexts::accepts, crate::proofs::Limits::limited_below))]
 pub fn read(text: &[u8], table: &mut [Line]) -> Result<usize, ReadFault>
     ensures answer { result ≡ answer (reading text.now (length table.old)) }
     ensures table { table.new ≡ filled (reading text.now (length table.old)) table.old }
@@ -26,18 +28,15 @@ pub fn read(text: &[u8], table: &mut [Line]) -> Result<usize, ReadFault>
     }
     let room = table.len().min(MAX_LINES);
     let mut reader = Reader::new(text);
-    let mut number = 1;
-    let mut count = 0;
-    while !reader.is_at_end() {
-        if let Some(line) = reader.line(number)? {
-            if count == room {
-                return Err(ReadFault::TooManyLines(number));
-            }
-            table[count] = line;
-            count += 1;
-        }
-        reader.next_line();
-        number += 1;
+    let slots = &mut table[..room];
+    for (count, slot) in slots.iter_mut().enumerate() {
+        let Some((_, line)) = reader.next_entry()? else {
+            return Ok(count);
+        };
+        *slot = line;
     }
-    Ok(count)
+    match reader.next_entry()? {
+        Some((number, _)) => Err(ReadFault::TooManyLines(number)),
+        None => Ok(room),
+    }
 }

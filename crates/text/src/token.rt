@@ -1,5 +1,5 @@
 ghost use Rattle.std.specs.Prelude.{◌≡◌};
-ghost use Rattle.text.specs.Meanings.{seen, meant, as_word, as_field, as_number};
+ghost use Rattle.text.specs.Meanings.{seen, meant};
 ghost use Rattle.text.specs.Tokens.{Piece};
 
 use crate::keyword::Keyword;
@@ -7,6 +7,7 @@ use crate::numeral::{field_of, number_of};
 use lines::field::Field;
 
 /// A token: the part of the text that it is, the place of its first byte in the text, and what it means.
+// Each case holds part and place, since callers match a case and take its part: a form fixed for the product (docs/DECISIONS.md, "Named forms").
 #[derive(Clone, Copy)]
 pub enum Token<'a> {
     Word {
@@ -52,36 +53,6 @@ impl<'a> Token<'a> {
             }
         } else {
             Token::Junk { part, place }
-        }
-    }
-
-    /// The line word, if the token is one.
-    pub(crate) fn as_keyword(self) -> Option<Keyword>
-        ensures { result ≡ as_word (seen self.entry).means }
-    {
-        match self {
-            Token::Word { keyword, .. } => Some(keyword),
-            _ => None,
-        }
-    }
-
-    /// The field, if the token is one.
-    pub(crate) fn as_field(self) -> Option<Field>
-        ensures { result ≡ as_field (seen self.entry).means }
-    {
-        match self {
-            Token::Field { field, .. } => Some(field),
-            _ => None,
-        }
-    }
-
-    /// The number, if the token is one.
-    pub(crate) fn as_number(self) -> Option<u32>
-        ensures { result ≡ as_number (seen self.entry).means }
-    {
-        match self {
-            Token::Number { number, .. } => Some(number),
-            _ => None,
         }
     }
 }

@@ -1,19 +1,18 @@
+use faults::Fault;
 use lines::field::Field;
 use lines::line::Line;
 use lines::operation::Operation;
 use std::alloc::{AllocError, Global};
 use std::test::Fail;
+use text::fault::ReadFault;
 use text::reader::Reader;
 use text::table::{MAX_LINES, MAX_TEXT, read};
 use text::text_lines::{line_text, text_line_of};
 use text::token::Token;
 
-/// The number and the place of the refusal, or 0 and the count of the lines.
-fn outcome(text: &[u8], table: &mut [Line]) -> (u32, usize) {
-    match read(text, table) {
-        Ok(count) => (0, count),
-        Err(fault) => (fault.number(), fault.place()),
-    }
+/// The number and the place of a refusal in place of the refusal itself.
+fn refusal<T, F: Fault + Drop>(outcome: Result<T, F>) -> Result<T, (u32, usize)> {
+    outcome.map_err(|fault| (fault.number(), fault.place()))
 }
 
 fn is_junk(text: &[u8]) -> bool {
@@ -25,10 +24,7 @@ fn is_junk(text: &[u8]) -> bool {
 
 /// The line so many times, and then the tail.
 fn repeated(heap: Global, line: &[u8], times: usize, tail: &[u8]) -> Result<Vec<u8>, AllocError> {
-    let mut text = Vec::new(heap);
-    for _ in 0..times {
-        text.extend_from_slice(line)?;
-    }
+    let mut text = line.repeat(heap, times)?;
     text.extend_from_slice(tail)?;
     Ok(text)
 }
@@ -37,7 +33,7 @@ fn repeated(heap: Global, line: &[u8], times: usize, tail: &[u8]) -> Result<Vec<
 fn reads_lines(rt: HostRuntime) {
     let mut table = [Line::Break; 4];
     let text = b"; a comment\n  word f0 4294967295 ; more\n\nless f95 f1 f2;x\nturn f66 10";
-    assert_eq!(rt; outcome(text, &mut table), (0, 3));
+    assert_eq!(rt; refusal(read(text, &mut table)), Ok(3));
     assert_eq!(rt;
         table[0],
         Line::Operation(Operation::Word(Field(0), 4_294_967_295))
@@ -50,52 +46,59 @@ fn reads_lines(rt: HostRuntime) {
     assert_eq!(rt; table[3], Line::Break);
 }
 
-/// Texts with the number and the place of their refusal, 0 where they pass.
-const CASES: [(&[u8], u32, usize); 25] = [
-    (b"", 0, 0),
-    (b"\n", 0, 0),
-    (b";", 0, 0),
-    (b"  ; end end\n ;\n", 0, 0),
-    (b"word\tf0 1", 2, 1),
-    (b"end\n\nEnd", 2, 3),
-    (b"f0 1", 2, 1),
-    (b"f96", 2, 1),
-    (b"007", 2, 1),
-    (b"4294967296", 2, 1),
-    (b"end\0", 2, 1),
-    (b"\xff", 2, 1),
-    (b"word f0 1\r\n", 3, 1),
-    (b"word f00 1", 3, 1),
-    (b"word f96 1", 3, 1),
-    (b"word f0 007", 3, 1),
-    (b"word f0 4294967296", 3, 1),
-    (b"word f0 99999999999999999999999999", 3, 1),
-    (b"end\nadd f0 f1", 3, 2),
-    (b"add f0 f1;f2", 3, 1),
-    (b"add f0 f1 f2 f3", 3, 1),
-    (b"if", 3, 1),
-    (b"if 0", 3, 1),
-    (b"loop f0 f1", 3, 1),
-    (b"else else", 3, 1),
+/// Texts with the number and the place of their refusal, or the count of their lines.
+const CASES: [(&[u8], Result<usize, (u32, usize)>); 25] = [
+    (b"", Ok(0)),
+    (b"\n", Ok(0)),
+    (b";", Ok(0)),
+    (b"  ; end end\n ;\n", Ok(0)),
+    (b"word\tf0 1", Err((2, 1))),
+    (b"end\n\nEnd", Err((2, 3))),
+    (b"f0 1", Err((2, 1))),
+    (b"f96", Err((2, 1))),
+    (b"007", Err((2, 1))),
+    (b"4294967296", Err((2, 1))),
+    (b"end\0", Err((2, 1))),
+    (b"\xff", Err((2, 1))),
+    (b"word f0 1\r\n", Err((3, 1))),
+    (b"word f00 1", Err((3, 1))),
+    (b"word f96 1", Err((3, 1))),
+    (b"word f0 007", Err((3, 1))),
+    (b"word f0 4294967296", Err((3, 1))),
+    (b"word f0 99999999999999999999999999", Err((3, 1))),
+    (b"end\nadd f0 f1", Err((3, 2))),
+    (b"add f0 f1;f2", Err((3, 1))),
+    (b"add f0 f1 f2 f3", Err((3, 1))),
+    (b"if", Err((3, 1))),
+    (b"if 0", Err((3, 1))),
+    (b"loop f0 f1", Err((3, 1))),
+    (b"else else", Err((3, 1))),
 ];
 
 #[test]
 fn refuses_texts(rt: HostRuntime) {
-    for (text, number, place) in CASES {
+    for (text, expected) in CASES {
         let mut table = [Line::End; 8];
-        assert_eq!(rt; outcome(text, &mut table), (number, place));
+        assert_eq!(rt; refusal(read(text, &mut table)), expected);
     }
 }
 
 #[test]
 fn refuses_a_full_table(rt: HostRuntime) {
     let mut table = [Line::Break; 1];
-    assert_eq!(rt; outcome(b"else\n;\nend\n", &mut table), (4, 3));
+    assert_eq!(rt; refusal(read(b"else\n;\nend\n", &mut table)), Err((4, 3)));
     assert_eq!(rt; table[0], Line::Else);
-    assert_eq!(rt; outcome(b"end\n\nnothing", &mut table), (2, 3));
-    assert_eq!(rt; outcome(b"end\nend end", &mut table), (3, 2));
+    assert_eq!(rt; refusal(read(b"end\n\nnothing", &mut table)), Err((2, 3)));
+    assert_eq!(rt; refusal(read(b"end\nend end", &mut table)), Err((3, 2)));
     let mut none = [Line::Break; 0];
-    assert_eq!(rt; outcome(b"end", &mut none), (4, 1));
+    assert_eq!(rt; refusal(read(b"end", &mut none)), Err((4, 1)));
+}
+
+#[test]
+fn prints_the_sentence(rt: HostRuntime) -> Result<(), Fail> {
+    let printed = format!(in rt.alloc(); "{}", ReadFault::MissingOperand(3))?;
+    assert_eq!(rt; printed.as_str(), "an operand is missing");
+    Ok(())
 }
 
 /// Texts of one token, and whether it is junk.
@@ -125,7 +128,9 @@ fn goes_over_tokens(rt: HostRuntime) {
     assert!(rt; matches!(reader.next_token(), Some(Token::Field { place: 5, .. })));
     assert!(rt; reader.next_token().is_none());
     assert!(rt; reader.next_token().is_none());
+    assert_eq!(rt; reader.line_number(), 1);
     assert!(rt; reader.next_line());
+    assert_eq!(rt; reader.line_number(), 2);
     assert!(rt;
         matches!(
             reader.next_token(),
@@ -170,9 +175,9 @@ fn finds_the_lines_of_a_table(rt: HostRuntime) {
 fn limits_the_text(rt: HostRuntime) -> Result<(), Fail> {
     let mut table = [Line::End; 1];
     let mut text = repeated(rt.alloc(), b" ", MAX_TEXT, b"")?;
-    assert_eq!(rt; outcome(&text, &mut table), (0, 0));
+    assert_eq!(rt; refusal(read(&text, &mut table)), Ok(0));
     text.push(b' ')?;
-    assert_eq!(rt; outcome(&text, &mut table), (1, 0));
+    assert_eq!(rt; refusal(read(&text, &mut table)), Err((1, 0)));
     Ok(())
 }
 
@@ -180,12 +185,12 @@ fn limits_the_text(rt: HostRuntime) -> Result<(), Fail> {
 fn limits_the_lines(rt: HostRuntime) -> Result<(), Fail> {
     let mut table = vec![in rt.alloc(); Line::Else; MAX_LINES + 1]?;
     let text = repeated(rt.alloc(), b"end\n", MAX_LINES, b";\n\n")?;
-    assert_eq!(rt; outcome(&text, &mut table), (0, 2400));
+    assert_eq!(rt; refusal(read(&text, &mut table)), Ok(2400));
     let text = repeated(rt.alloc(), b"end\n", MAX_LINES, b";\n\nend")?;
-    assert_eq!(rt; outcome(&text, &mut table), (4, 2403));
+    assert_eq!(rt; refusal(read(&text, &mut table)), Err((4, 2403)));
     let text = repeated(rt.alloc(), b"end\n", MAX_LINES, b"word f0\nend")?;
-    assert_eq!(rt; outcome(&text, &mut table), (3, 2401));
+    assert_eq!(rt; refusal(read(&text, &mut table)), Err((3, 2401)));
     let text = repeated(rt.alloc(), b"end\n", MAX_LINES, b"words\nend")?;
-    assert_eq!(rt; outcome(&text, &mut table), (2, 2401));
+    assert_eq!(rt; refusal(read(&text, &mut table)), Err((2, 2401)));
     Ok(())
 }

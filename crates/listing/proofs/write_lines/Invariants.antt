@@ -4,4 +4,4 @@ use Rattle.listing.specs.Listing.{listing}
 use Rattle.listing.proofs.write_lines.Given as goal
 
 abbrev pub invariant-loop-line : goal.invariant-loop-line
-invariant-loop-line l = Wrote l.initial.buffer 0 (listing (take l.line-index l.table)) l.buffer l.next
+invariant-loop-line l = Wrote l.initial.out (listing (take l.line-index l.table)) l.out

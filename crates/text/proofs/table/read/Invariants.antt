@@ -1,9 +1,10 @@
-use Rattle.std.proofs.Common.{◌-◌, length}
-use Rattle.text.proofs.Filling.{Progress}
+use Rattle.std.proofs.Common.{◌≡◌, ◌-◌, length, take, drop}
+use Rattle.text.specs.Reading.{reading, unread}
+use Rattle.text.proofs.Filling.{after}
 use Rattle.text.proofs.table.read.Given as goal
 
-abbrev pub invariant-loop-reader : goal.invariant-loop-reader
-invariant-loop-reader l = Progress l.text l.room l.initial.table l.reader l.number l.count l.table
-
-abbrev pub decreases-loop-reader : goal.decreases-loop-reader
-decreases-loop-reader l = length l.text - l.reader.at
+abbrev pub invariant-loop-count : goal.invariant-loop-count
+invariant-loop-count l = record {
+  gives : after (take l.count l.slots) (unread (l.room - l.count) l.reader) ≡ reading l.text (length l.fn.table);
+  kept : drop l.count l.slots ≡ drop l.count l.initial.slots;
+}

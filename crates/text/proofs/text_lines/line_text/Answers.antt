@@ -1,31 +1,29 @@
-use Rattle.std.proofs.Common.{Some, ap, ◌∙◌, arith}
+use Rattle.std.proofs.Common.{◌≡◌, ℕ, List, Some, None, Option, Bor, refl, ◌∙◌}
+use Rattle.std.proofs.lemmas.Iterator.Consumers.{YieldsList-from_first, nth_from_yields_List}
+use Rattle.std.specs.Option.{option_map}
+use Rattle.text.specs.Reading.{lines_left}
+use Rattle.text.specs.TextLines.{held, text_lines}
+use Rattle.text.specs.declared.text_lines.Lines.{Lines}
 use Rattle.text.proofs.LinesOf.{lines_of, line_part}
-use Rattle.text.proofs.Seeking.{none_numbered, line_passed, line_past, line_none, line_here}
+use Rattle.text.proofs.Unread.{all_lines, line_numbered}
 use Rattle.text.proofs.text_lines.line_text.Goals as goal
 
-pub returns-then-number-eq0 : goal.returns-then-number-eq0
-returns-then-number-eq0 c =
-    let text = c.args.text.now in
-    let e = none_numbered text c.args.number c.if-number-eq0.true in
-    record { value = e; part = line_part text c.args.number _ e; lines = lines_of text }
+pub returns-in_err-before-clause-lines : goal.returns-in_err-before-clause-lines
+returns-in_err-before-clause-lines c = lines_of c.args.text.now
 
-pub returns-then-not-next_line : goal.returns-then-not-next_line
-returns-then-not-next_line c =
-    let text = c.args.text.now in
-    let e = line_past text c.args.number c.loop-line._line c.loop-line.reader c.loop-line.invariant.0 c.loop-line.invariant.1 (omega arith) c.if-not-next_line.ensures.more in
-    record { value = e; part = line_part text c.args.number _ e; lines = lines_of text }
+held_is : (o : Option (Bor (List ℕ))) → held o ≡ option_map (λ part. part.now) o
+held_is None = refl
+held_is (Some part) = refl
 
-pub loop-line-preserved : goal.loop-line-preserved
-loop-line-preserved c = line_passed c.args.text.now c.args.number c.loop-line._line c.loop-line.reader c.loop-line.invariant.0 c.loop-line.invariant.1 (omega arith) c.next_line.new.self c.next_line.ensures.text c.next_line.ensures.at
-
-pub returns-then-is_at_end : goal.returns-then-is_at_end
-returns-then-is_at_end c =
+pub returns : goal.returns
+returns c =
     let text = c.args.text.now in
-    let e = line_none text c.args.number c.loop-line._line c.loop-line.reader c.loop-line.invariant.0 c.loop-line.invariant.1 c.if-is_at_end.ensures in
-    record { value = e; part = line_part text c.args.number _ e; lines = lines_of text }
-
-pub returns-else-is_at_end : goal.returns-else-is_at_end
-returns-else-is_at_end c =
-    let text = c.args.text.now in
-    let e = ap Some c.rest_of_line.ensures ∙ line_here text c.args.number c.loop-line._line c.loop-line.reader c.loop-line.invariant.0 c.loop-line.invariant.1 (omega arith) c.if-is_at_end.ensures in
+    let n = c.new.ensures in
+    let k = c.in_ok-before.ensures in
+    let s : Lines = record { 0 = c.new.result } in
+    let all = text_lines text in
+    let e =
+    held_is c.nth.result
+    ∙ nth_from_yields_List {s = s} {all = all} c.nth.result c.nth.new.self c.in_ok-before.before c.nth.ensures.ran (YieldsList-from_first (λ part. part.now) (λ (t : Lines). lines_left t.0) {s = s} all (all_lines text c.new.result n.text n.at))
+    ∙ line_numbered text c.args.number c.in_ok-before.before k.0 k.1 in
     record { value = e; part = line_part text c.args.number _ e; lines = lines_of text }

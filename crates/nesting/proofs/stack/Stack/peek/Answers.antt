@@ -1,9 +1,11 @@
-use Rattle.std.proofs.Common.{sym, arith}
-use Rattle.nesting.proofs.Views.{view_peek, view_past}
+use Rattle.std.proofs.Common.{reverse, arith}
+use Rattle.std.proofs.lemmas.Iterator.Adapters.{YieldsList-from_rev_slice}
+use Rattle.std.proofs.lemmas.Iterator.Consumers.{nth_from_yields_List}
+use Rattle.nesting.proofs.Views.{top-drop}
 use Rattle.nesting.proofs.stack.Stack.peek.Goals as goal
 
-pub returns-then-under-self : goal.returns-then-under-self
-returns-then-under-self g c = sym (view_peek c.args.self.now.items c.args.self.now.depth c.args.under _ (omega arith) (omega arith))
-
-pub returns-else-under-self : goal.returns-else-under-self
-returns-else-under-self g c = sym (view_past c.args.self.now.items c.args.self.now.depth c.args.under (omega arith) (omega arith))
+pub returns : goal.returns
+returns g c =
+    let items = c.as_slice.result.now in
+    let found = nth_from_yields_List c.nth.result c.nth.new.self c.args.under c.nth.ensures.ran (YieldsList-from_rev_slice items (grind arith)) in
+    grind (arith, top-drop (reverse items) c.args.under)
