@@ -73,7 +73,3 @@ abbrev pub taken : ℕ → Result (Option (ℕ × Line)) ReadFault → (ℕ → 
 taken room (Err e) rest = refused e
 taken room (Ok None) rest = record { lines = []; fault = None }
 taken room (Ok (Some p)) rest = entered room p.0 (Ok (Some p.1)) rest
-
--- The numbers of those lines that a reader still has which have a token.
-abbrev pub token_lines_left : Reader → List ℕ
-token_lines_left r = token_lines r.number (lines_left r)

@@ -1,4 +1,4 @@
-ghost use Rattle.std.specs.Prelude.{◌≡◌, Some};
+ghost use Rattle.std.specs.Prelude.{Some};
 ghost use Rattle.text.specs.Faults.{read_number, read_place, read_sentence};
 
 use faults::Fault;

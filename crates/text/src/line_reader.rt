@@ -14,7 +14,7 @@ use lines::operation::Operation;
 
 impl<'a> Reader<'a> {
     /// The next token, which has to be an operand of the kind.
-    #[tactic(auto, using(crate::proofs::Taking::took_rest, crate::proofs::Taking::took_same, crate::proofs::Taking::left_none, crate::proofs::Taking::left_some))]
+    #[tactic(auto, using(crate::proofs::Taking::taking))]
     fn operand<T: FromToken>(&mut self) -> Result<T, ReadFault>
         ensures value { result ≡ operand T.kind self.old.number (left self.old) }
         ensures rest { left self.new ≡ rest_of (left self.old) }
@@ -26,7 +26,7 @@ impl<'a> Reader<'a> {
     }
 
     /// The line has to end here.
-    #[tactic(auto, using(crate::proofs::Taking::took_same, crate::proofs::Taking::left_none, crate::proofs::Taking::left_some))]
+    #[tactic(auto, using(crate::proofs::Taking::taking))]
     fn no_more(&mut self) -> Result<(), ReadFault>
         ensures value { result ≡ no_more self.old.number (left self.old) }
         ensures same { SameLine self.old self.new }
@@ -105,7 +105,7 @@ impl<'a> Reader<'a> {
     }
 
     /// The line that the text line writes, or none where it has no token.
-    #[tactic(auto, using(crate::proofs::Taking::took_rest, crate::proofs::Taking::took_same, crate::proofs::Taking::left_none, crate::proofs::Taking::left_some, crate::proofs::Taking::same_after))]
+    #[tactic(auto, using(crate::proofs::Taking::taking))]
     pub(crate) fn line(&mut self) -> Result<Option<Line>, ReadFault>
         ensures value { result ≡ line_read self.old.number (left self.old) }
         ensures same { SameLine self.old self.new }
@@ -119,7 +119,7 @@ impl<'a> Reader<'a> {
     }
 
     /// The next line that a text line writes, with the number of this text line, past which the reader goes.
-    #[tactic(auto, using(crate::proofs::Unread::shrinks, crate::proofs::Unread::unread_fault, crate::proofs::Unread::taken_fault))]
+    #[tactic(auto, using(crate::proofs::Unread::shrinks, crate::proofs::Unread::unread_fault))]
     pub(crate) fn next_entry(&mut self) -> Result<Option<(usize, Line)>, ReadFault>
         ensures { (room : ℕ) → unread room self.old ≡ taken room result (λ k. unread k self.new) }
     {

@@ -33,7 +33,7 @@ pub(crate) fn field_of(part: &[u8]) -> Option<Field>
 
 /// The number that the bytes write if they are digits alone, leading zeros and none at all included.
 // Not `parse`, which takes a sign and is for texts of characters.
-#[tactic(auto, using(crate::proofs::Digits::value_from_start))]
+#[tactic(auto, using(crate::proofs::Digits::value_from_is))]
 fn digits_value(part: &[u8]) -> Option<u32>
     ensures { result ≡ digits_value part.now }
 {

@@ -15,7 +15,7 @@ pub const MAX_LINES: usize = 2_400;
 
 /// Reads a rule text into the table, and answers how many lines it wrote. Where it refuses, the lines before the refused one are written; the entries past those written stay. The lines read keep within the limits of a text: fields below 96, numbers of 32 bits, at most 2,400 lines.
 // A count is answered, since a part of the table would keep the whole lent, and a refusal leaves lines in it too.
-#[tactic(auto, using(crate::proofs::RuleTexts::accepts, crate::proofs::Limits::limited_below))]
+#[tactic(auto, using(crate::proofs::RuleTexts::accepts, crate::proofs::Limits::limited_below, crate::proofs::Filling::filling))]
 pub fn read(text: &[u8], table: &mut [Line]) -> Result<usize, ReadFault>
     ensures answer { result ≡ answer (reading text.now (length table.old)) }
     ensures table { table.new ≡ filled (reading text.now (length table.old)) table.old }

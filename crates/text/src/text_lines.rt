@@ -1,6 +1,6 @@
-ghost use Rattle.std.specs.Iterator.{YieldsFirst, YieldsFirstRef, item_count};
+ghost use Rattle.std.specs.Iterator.{YieldsFirstRef, item_count};
 ghost use Rattle.std.specs.Prelude.{◌≡◌};
-ghost use Rattle.text.specs.Reading.{lines_left, token_lines_left, written_by};
+ghost use Rattle.text.specs.Reading.{lines_left, written_by};
 ghost use Rattle.text.specs.RuleTexts.{ReadFromText};
 ghost use Rattle.text.specs.TextLines.{LinesOf, held, line_start, numbered_line, text_lines};
 ghost use Rattle.text.specs.Tokens.{PartAt};
@@ -18,7 +18,7 @@ impl<'a> Iterator for Lines<'a> {
 
     ghost remaining = { item_count (λ s. lines_left s.0) };
 
-    #[tactic(auto, using(crate::proofs::Unread::here, crate::proofs::Unread::lines_more))]
+    #[tactic(auto, using(crate::proofs::Unread::lines_more))]
     fn next(&mut self) -> Option<&'a [u8]> {
         if self.0.is_at_end() {
             return None;
@@ -26,31 +26,6 @@ impl<'a> Iterator for Lines<'a> {
         let line = self.0.rest_of_line();
         self.0.next_line();
         Some(line)
-    }
-}
-
-/// The numbers of the text lines that have a token.
-#[derive(Drop)]
-struct TokenLines<'a>(Reader<'a>);
-
-impl<'a> Iterator for TokenLines<'a> {
-    type Item = usize;
-
-    ghost next_gives = { YieldsFirst (λ s. token_lines_left s.0) };
-
-    ghost remaining = { item_count (λ s. token_lines_left s.0) };
-
-    #[tactic(auto, using(crate::proofs::Taking::took_same, crate::proofs::Unread::shrinks))]
-    fn next(&mut self) -> Option<usize> {
-        while !self.0.is_at_end() {
-            let number = self.0.line_number();
-            let some = self.0.next_token().is_some();
-            self.0.next_line();
-            if some {
-                return Some(number);
-            }
-        }
-        None
     }
 }
 
@@ -70,5 +45,9 @@ pub fn text_line_of(text: &[u8], n: usize) -> Option<usize>
     ensures value { result ≡ written_by text.now n }
     ensures source { ReadFromText text.now n }
 {
-    TokenLines(Reader::new(text)).nth(n)
+    Lines(Reader::new(text))
+        .enumerate()
+        .filter(|(_, line)| Reader::new(line).next_token().is_some())
+        .nth(n)
+        .map(|(before, _)| before + 1)
 }

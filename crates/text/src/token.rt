@@ -1,6 +1,5 @@
 ghost use Rattle.std.specs.Prelude.{◌≡◌};
 ghost use Rattle.text.specs.Meanings.{seen, meant};
-ghost use Rattle.text.specs.Tokens.{Piece};
 
 use crate::keyword::Keyword;
 use crate::numeral::{field_of, number_of};
