@@ -133,7 +133,7 @@ fn loop_end_lines(level: Level, counter: Field) -> [Line; 2]
 }
 
 /// Writes the end of the innermost open line: that of an `if` has no lines, and neither has an `end` where none is open.
-// An arm without lines writes none: that the count fits is known only of a writer that was used.
+// An arm without lines writes none: that the count fits is known only of a writer that was used. The stack is no part of the writer, which knows no lines.
 fn write_end<T: Copy>(out: &mut Writer<'_, Line>, stack: &Stack<Frame<T>>)
     ensures { Wrote out.old (ending_of (opens stack.now)) out.new }
 {

@@ -3,8 +3,8 @@
 #![tactic(auto)]
 
 use lines::line::Line;
-use listing::{MAX_LINE_BYTES, list};
-use preparation::prepare::prepare;
+use listing::list;
+use preparation::prepare::{MAX_LISTING_BYTES, prepare};
 use std::alloc::Global;
 use std::env;
 use std::time::Instant;
@@ -13,8 +13,6 @@ use text::table::read;
 
 /// How often each call is timed.
 const TURNS: u64 = 200;
-
-const LISTING_BYTES: usize = MAX_LINE_BYTES * MAX_TABLE_LINES;
 
 /// A text line of 32 bytes.
 const LINE: &[u8; 32] = b"add f10 f20 f30 ; some comment.\n";
@@ -60,7 +58,7 @@ fn measure_prepare(rt: &HostRuntime, lines: usize, is_timed: bool) -> anyhow::Re
     let text = text_of(rt.alloc(), lines)?;
     let mut rule = vec![in rt.alloc(); Line::End; MAX_TABLE_LINES]?;
     let mut table = vec![in rt.alloc(); Line::End; MAX_TABLE_LINES]?;
-    let mut buffer = vec![in rt.alloc(); 0u8; LISTING_BYTES]?;
+    let mut buffer = vec![in rt.alloc(); 0u8; MAX_LISTING_BYTES]?;
     let (listed, nanos) = timed(rt, || match prepare(&text, &mut rule, &mut table) {
         Ok(prepared) => list(&table[..prepared.balanced_lines], &mut buffer).unwrap_or(0),
         Err(_) => 0,

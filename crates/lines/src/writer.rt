@@ -19,6 +19,7 @@ impl<'a, T: Copy> Writer<'a, T> {
     }
 
     /// A writer whose first item goes to entry `at`; what stands before counts as written.
+    // For whoever goes on where another writer stopped.
     pub fn starting_at(slice: &'a mut [T], at: usize) -> Writer<'a, T>
         ensures same { result.slice.ghost_name ≡ slice.entry.ghost_name }
         ensures slice { result.slice.now ≡ slice.old }

@@ -1,4 +1,5 @@
-//! The text of one line, written as far as there is room.
+//! The text of one line, written as far as there is room. No `impl Display`: `fmt` says nothing of what was written where it fails, and never that it does not fail, so `list` could not promise its answer.
+
 ghost use Rattle.std.specs.Prelude.{[], ◌∷◌, map, decimal};
 ghost use Rattle.lines.specs.Overwrites.{Wrote};
 ghost use Rattle.listing.specs.Listing.{field_word, spaced_word, spaced, operation_words, line_words, line_bytes};
@@ -63,7 +64,6 @@ fn write_operation(out: &mut Writer<'_, u8>, operation: &Operation)
     }
 }
 
-// A line has no `impl Display`: `fmt` says nothing of what was written where it fails, and never that it does not fail, so `list` could not promise its answer.
 /// Writes the words of a line.
 fn write_words(out: &mut Writer<'_, u8>, line: &Line)
     ensures { Wrote out.old (spaced (line_words line.now)) out.new }

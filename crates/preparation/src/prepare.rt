@@ -9,8 +9,13 @@ ghost use Rattle.preparation.specs.Preparing.{balancing, checked_after, preparin
 use crate::fault::PrepareFault;
 use balance::balance::balance;
 use lines::line::Line;
+use listing::MAX_LINE_BYTES;
 use rules::check::{Costs, check};
+use tables::admit::MAX_TABLE_LINES;
 use text::table::read;
+
+/// Room for the listing of any balanced table.
+pub const MAX_LISTING_BYTES: usize = MAX_LINE_BYTES * MAX_TABLE_LINES;
 
 /// What was prepared: how many lines of each lent table it fills, and what the rule costs.
 // Counts, since parts of the tables would keep both lent.

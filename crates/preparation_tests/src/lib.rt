@@ -11,6 +11,7 @@ mod explanations;
 mod texts;
 
 /// A refusal by its number and its place.
+// `text_tests` has its like: the two share no crate that is for tests alone.
 #[cfg(test)]
 fn refused<T, F: faults::Fault + Drop>(answer: Result<T, F>) -> Result<T, (u32, usize)> {
     answer.map_err(|fault| (fault.number(), fault.place()))

@@ -2,19 +2,16 @@
 #![tactic(auto)]
 
 use lines::line::Line;
-use listing::{MAX_LINE_BYTES, list};
+use listing::list;
 use preparation::explain::{Refusal, fault_line};
 use preparation::fault::PrepareFault;
-use preparation::prepare::prepare;
+use preparation::prepare::{MAX_LISTING_BYTES, prepare};
 use std::io;
 use std::io::{Read, Write};
 use std::process::ExitCode;
 use tables::admit::MAX_TABLE_LINES;
 use text::table::MAX_TEXT;
 use text::text_lines::line_text;
-
-/// Room for the listing of any balanced table.
-const LISTING_BYTES: usize = MAX_LINE_BYTES * MAX_TABLE_LINES;
 
 /// Standard input, of which at most one byte past the limit is taken.
 fn read_text(rt: &HostRuntime) -> io::Result<Vec<u8>> {
@@ -25,7 +22,7 @@ fn read_text(rt: &HostRuntime) -> io::Result<Vec<u8>> {
 
 /// Prints the lines of a table and its steps.
 fn print_table(rt: &HostRuntime, table: &[Line], steps: u32) -> anyhow::Result<()> {
-    let mut buffer = vec![in rt.alloc(); 0u8; LISTING_BYTES]?;
+    let mut buffer = vec![in rt.alloc(); 0u8; MAX_LISTING_BYTES]?;
     let length = list(table, &mut buffer)?;
     rt.stdout().write_all(&buffer[..length])?;
     println!(rt; "steps {steps}")?;

@@ -5,7 +5,7 @@ ghost use Rattle.text.specs.Numerals.{digits_value, number_of, field_of};
 
 use lines::field::Field;
 
-/// The largest number of a field.
+/// The largest number of a field in a text. Admission has the same limit for tables that come from no text.
 const LAST_FIELD: u32 = 95;
 
 /// The number that the bytes write in decimal.

@@ -10,7 +10,7 @@ use lines::line::Line;
 /// How many bytes a text may have.
 pub const MAX_TEXT: usize = 65_536;
 
-/// How many lines a table may take from a text.
+/// How many lines a table may take from a text. Admission has the same limit for tables that come from no text.
 pub const MAX_LINES: usize = 2_400;
 
 /// Reads a rule text into the table, and answers how many lines it wrote. Where it refuses, the lines before the refused one are written; the entries past those written stay. The lines read keep within the limits of a text: fields below 96, numbers of 32 bits, at most 2,400 lines.

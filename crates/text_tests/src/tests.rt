@@ -11,6 +11,7 @@ use text::text_lines::{line_text, text_line_of};
 use text::token::Token;
 
 /// The number and the place of a refusal in place of the refusal itself.
+// `preparation_tests` has its like: the two share no crate that is for tests alone.
 fn refusal<T, F: Fault + Drop>(outcome: Result<T, F>) -> Result<T, (u32, usize)> {
     outcome.map_err(|fault| (fault.number(), fault.place()))
 }
