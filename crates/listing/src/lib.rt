@@ -10,6 +10,7 @@ ghost use Rattle.listing.specs.RoundTrip.{ReadsBack};
 
 pub mod fault;
 mod line;
+mod number;
 
 use fault::ListFault;
 use line::write_line;

@@ -4,18 +4,11 @@ ghost use Rattle.std.specs.Prelude.{[], ◌∷◌, map, decimal};
 ghost use Rattle.lines.specs.Overwrites.{Wrote};
 ghost use Rattle.listing.specs.Listing.{field_word, spaced_word, spaced, operation_words, line_words, line_bytes};
 
-use itoa::Buffer;
+use crate::number::write_number;
 use lines::field::Field;
 use lines::line::Line;
 use lines::operation::Operation;
 use lines::writer::Writer;
-
-/// Writes a number in decimal.
-fn write_number(out: &mut Writer<'_, u8>, n: u32)
-    ensures { Wrote out.old (decimal n) out.new }
-{
-    out.write(Buffer::new().format(n).as_bytes());
-}
 
 /// Writes a space and the field.
 fn write_field(out: &mut Writer<'_, u8>, field: Field)

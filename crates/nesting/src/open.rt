@@ -36,6 +36,7 @@ impl<T: Copy> Stack<Frame<T>> {
     pub fn loop_level(&self) -> Option<usize>
         ensures value { result ≡ loop_body (opens self.now) }
         ensures within { IfSome result (λ level. level ≤ length self.now) }
+        ensures few { length self.now ≤ 8 }
     {
         let mut outwards = self.as_slice().iter().rev();
         let around = outwards.position(|frame| frame.part.is_loop())?;

@@ -46,23 +46,27 @@ impl<T: Copy> Stack<T> {
 
     /// Whether there is none.
     pub fn is_empty(&self) -> bool
-        ensures { result ≡ (length self.now == 0) }
+        ensures empty { result ≡ (length self.now == 0) }
+        ensures few { length self.now ≤ 8 }
     {
         self.depth == 0
     }
 
     /// The items, the topmost last.
     pub fn as_slice(&self) -> &[T]
-        ensures { reverse result.now ≡ self.now }
+        ensures items { reverse result.now ≡ self.now }
+        ensures few { length self.now ≤ 8 }
     {
         &self.items[..self.depth]
     }
 
     /// The item so many places below the top.
     pub fn peek(&self, under: usize) -> Option<T>
-        ensures { result ≡ top (drop under self.now) }
+        ensures item { result ≡ top (drop under self.now) }
+        ensures few { length self.now ≤ 8 }
     {
-        self.as_slice().iter().rev().nth(under).copied()
+        let at = self.depth.checked_sub(under)?.checked_sub(1)?;
+        Some(self.items[at])
     }
 
     /// Puts an item on top, or hands it back where there is no room.
@@ -70,8 +74,9 @@ impl<T: Copy> Stack<T> {
         ensures fits { is_ok result ≡ nat_lt (length self.old) 8 }
         ensures after { self.new ≡ (if is_ok result then item ∷ self.old else self.old) }
         ensures back { IfErr result (λ x. x ≡ item) }
+        ensures few { length self.new ≤ 8 }
     {
-        if self.depth == DEPTH {
+        if self.depth >= DEPTH {
             return Err(item);
         }
         self.items[self.depth] = item;

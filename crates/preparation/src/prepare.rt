@@ -35,7 +35,7 @@ fn check_and_balance(lines: &[Line], table: &mut [Line]) -> Result<(Costs, usize
     ensures balanced { IfOk result (λ p. Balanced lines.now (take p.1 table.new) p.0) }
 {
     let rule = check(lines)?;
-    let balanced_lines = balance(&rule, table)?;
+    let balanced_lines = balance(lines, table)?;
     Ok((rule.costs(), balanced_lines))
 }
 

@@ -10,7 +10,7 @@ abbrev pub value_from : ℕ → List ℕ → Option ℕ
 value_from n [] = Some n
 value_from n (d ∷ ds) = cond (is_ascii_digit d) (cond (ltb 4294967295 (n * 10 + (d - 48))) None (value_from (n * 10 + (d - 48)) ds)) None
 
-value_after_least : (n : ℕ) (ds : List ℕ) → n ≤ value_after n ds
+pub value_after_least : (n : ℕ) (ds : List ℕ) → n ≤ value_after n ds
 value_after_least n [] = omega arith
 value_after_least n (d ∷ ds) = omega (arith, value_after_least (n * 10 + (d - 48)) ds)
 

@@ -9,26 +9,26 @@ use Rattle.text.specs.Tokens.{Piece, is_solid, solid_first, tokens, tokens_at, b
 use Rattle.text.proofs.Runs.{drop_one, take_one}
 
 -- The blanks in front hold no token and no line's end.
-tokens_skip : (at : ℕ) (bs : List ℕ) → tokens at bs ≡ tokens (at + blanks bs) (drop (blanks bs) bs)
+pub tokens_skip : (at : ℕ) (bs : List ℕ) → tokens at bs ≡ tokens (at + blanks bs) (drop (blanks bs) bs)
 tokens_skip at [] = refl
 tokens_skip at (b ∷ bs) = grind (arith, nat_tests, drop_one, tokens_skip (at + 1) bs)
 
-size_skip : (bs : List ℕ) → line_size bs ≡ blanks bs + line_size (drop (blanks bs) bs)
+pub size_skip : (bs : List ℕ) → line_size bs ≡ blanks bs + line_size (drop (blanks bs) bs)
 size_skip [] = refl
 size_skip (b ∷ bs) = grind (arith, nat_tests, drop_one, size_skip bs)
 
 -- The solid bytes in front hold no line's end.
-size_solid : (bs : List ℕ) → line_size bs ≡ solids bs + line_size (drop (solids bs) bs)
+pub size_solid : (bs : List ℕ) → line_size bs ≡ solids bs + line_size (drop (solids bs) bs)
 size_solid [] = refl
 size_solid (b ∷ bs) = grind (arith, nat_tests, drop_one, size_solid bs)
 
 -- Past the blanks stands no blank.
-skip_stops : (bs : List ℕ) → blanks (drop (blanks bs) bs) ≡ 0
+pub skip_stops : (bs : List ℕ) → blanks (drop (blanks bs) bs) ≡ 0
 skip_stops [] = refl
 skip_stops (b ∷ bs) = grind (arith, nat_tests, drop_one, skip_stops bs)
 
 -- A solid byte in front, and none.
-solids_some : (bs : List ℕ) → 0 < solids bs → solid_first bs ≡ true
+pub solids_some : (bs : List ℕ) → 0 < solids bs → solid_first bs ≡ true
 solids_some [] h = grind arith
 solids_some (b ∷ bs) h = grind (arith, nat_tests)
 
@@ -48,7 +48,7 @@ tokens_first at (b ∷ bs) e = ⊎_elim
     (cases_Bool (solid_first bs))
 
 -- Where neither a blank nor a solid byte stands in front there is no token.
-tokens_none : (at : ℕ) (bs : List ℕ) → blanks bs ≡ 0 → solids bs ≡ 0 → tokens at bs ≡ []
+pub tokens_none : (at : ℕ) (bs : List ℕ) → blanks bs ≡ 0 → solids bs ≡ 0 → tokens at bs ≡ []
 tokens_none at [] e f = refl
 tokens_none at (b ∷ bs) e f = grind (arith, nat_tests)
 

@@ -1,10 +1,10 @@
 -- The lines of a text, one by one.
-use Rattle.std.proofs.Common.{◌≡◌, ℕ, ◌+◌, ◌<◌, List, [], ◌∷◌, map, length, take, drop, refl, arith}
+use Rattle.std.proofs.Common.{◌≡◌, ℕ, ◌+◌, ◌<◌, Bool, true, false, List, [], ◌∷◌, map, length, take, drop, refl, arith}
 use Rattle.std.proofs.lemmas.List.{drop-drop, length-drop}
 use Rattle.std.proofs.lemmas.Bool.Decides.{nat_tests}
 use Rattle.text.specs.Meanings.{meaning, meanings}
 use Rattle.text.specs.TextLines.{text_lines, line_length, line_size, next_line}
-use Rattle.text.specs.Tokens.{Piece, solid_first, tokens, tokens_at}
+use Rattle.text.specs.Tokens.{Piece, solid_first, some_token, tokens, tokens_at}
 use Rattle.text.proofs.Runs.{drop_one, take_one}
 
 -- The first line, and the others.
@@ -45,6 +45,15 @@ meanings_are : (ps : List Piece) → meanings ps ≡ map meaning (bytes_of ps)
 meanings_are [] = refl
 meanings_are (p ∷ ps) = grind (arith, meanings_are ps)
 
+-- Whether there is a token shows in what tokens hold.
+abbrev any_of : List (List ℕ) → Bool
+any_of [] = false
+any_of (b ∷ bs) = true
+
+some_are : (ps : List Piece) → some_token ps ≡ any_of (bytes_of ps)
+some_are [] = refl
+some_are (p ∷ ps) = refl
+
 -- The tokens that a reader finds are those of the line.
 module _ (text : List ℕ) (at : ℕ) where
   bytes_at : bytes_of (tokens 0 (line_at text at)) ≡ bytes_of (tokens_at text at)
@@ -52,3 +61,6 @@ module _ (text : List ℕ) (at : ℕ) where
 
   pub meanings_at : meanings (tokens 0 (line_at text at)) ≡ meanings (tokens_at text at)
   meanings_at = grind (arith, bytes_at, meanings_are)
+
+  pub some_at : some_token (tokens 0 (line_at text at)) ≡ some_token (tokens_at text at)
+  some_at = grind (arith, bytes_at, some_are)

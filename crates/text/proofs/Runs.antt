@@ -10,6 +10,10 @@ drop_one n b bs = grind arith
 pub take_one : (n b : ℕ) (bs : List ℕ) → take (1 + n) (b ∷ bs) ≡ b ∷ take n bs
 take_one n b bs = grind arith
 
+pub line_length_line : (bs : List ℕ) → length (take (line_length bs) bs) ≡ line_length bs
+line_length_line [] = refl
+line_length_line (b ∷ bs) = grind (arith, nat_tests, take_one, line_length_line bs)
+
 -- A line's end is counted in its size, unless the text ends there.
 pub line_size_is : (bs : List ℕ) → line_size bs ≡ min (length bs) (line_length bs + 1)
 line_size_is [] = refl

@@ -4,7 +4,7 @@ use Rattle.std.specs.List.{slice_get}
 use Rattle.lines.specs.declared.line.Line.{Line}
 use Rattle.text.specs.Meanings.{meanings}
 use Rattle.text.specs.Operands.{line_read}
-use Rattle.text.specs.TextLines.{text_lines}
+use Rattle.text.specs.TextLines.{has_end, next_line, text_lines}
 use Rattle.text.specs.Tokens.{tokens, some_token}
 use Rattle.text.specs.declared.fault.ReadFault.{ReadFault}
 use Rattle.text.specs.declared.fault.ReadFault.TheVariants as fault
@@ -68,7 +68,11 @@ lines_left r = text_lines (drop r.at r.text.now)
 abbrev pub unread : ℕ → Reader → Reading
 unread room r = read_lines room r.number (lines_left r)
 
--- The same from the first of them on that writes a line, where this line and its number are found, and else a fault or nothing.
+-- What the lines behind the one that the reader is in give.
+abbrev pub unread_behind : ℕ → Reader → Reading
+unread_behind room r = read_lines room (cond (has_end r.text.now r.at) (r.number + 1) r.number) (text_lines (drop (next_line r.text.now r.at) r.text.now))
+
+-- What lines give from the first of them on that writes a line, where this line and its number are found, and else a fault or nothing.
 abbrev pub taken : ℕ → Result (Option (ℕ × Line)) ReadFault → (ℕ → Reading) → Reading
 taken room (Err e) rest = refused e
 taken room (Ok None) rest = record { lines = []; fault = None }

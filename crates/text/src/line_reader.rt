@@ -2,7 +2,7 @@
 
 ghost use Rattle.std.specs.Prelude.{◌≡◌, ℕ};
 ghost use Rattle.text.specs.Operands.{operand, no_more, last, two, three, alone, line_of, line_read, left, SameLine};
-ghost use Rattle.text.specs.Reading.{unread, taken};
+ghost use Rattle.text.specs.Reading.{unread, unread_behind, taken};
 ghost use Rattle.text.specs.Tokens.{rest_of};
 
 use crate::fault::ReadFault;
@@ -118,19 +118,27 @@ impl<'a> Reader<'a> {
         Ok(Some(self.line_of(keyword)?))
     }
 
-    /// The next line that a text line writes, with the number of this text line, past which the reader goes.
+    /// The next line that a text line writes, with the number of this text line, in which the reader stays.
     #[tactic(auto, using(crate::proofs::Unread::shrinks, crate::proofs::Unread::unread_fault))]
-    pub(crate) fn next_entry(&mut self) -> Result<Option<(usize, Line)>, ReadFault>
-        ensures { (room : ℕ) → unread room self.old ≡ taken room result (λ k. unread k self.new) }
+    pub(crate) fn entry(&mut self) -> Result<Option<(usize, Line)>, ReadFault>
+        ensures { (room : ℕ) → unread room self.old ≡ taken room result (λ k. unread_behind k self.new) }
     {
         while !self.is_at_end() {
             let number = self.line_number();
-            let line = self.line()?;
-            self.next_line();
-            if let Some(line) = line {
+            if let Some(line) = self.line()? {
                 return Ok(Some((number, line)));
             }
+            self.next_line();
         }
         Ok(None)
+    }
+
+    /// The same, and the reader goes past this text line.
+    pub(crate) fn next_entry(&mut self) -> Result<Option<(usize, Line)>, ReadFault>
+        ensures { (room : ℕ) → unread room self.old ≡ taken room result (λ k. unread k self.new) }
+    {
+        let entry = self.entry()?;
+        self.next_line();
+        Ok(entry)
     }
 }

@@ -81,19 +81,31 @@ impl<'a> Reader<'a> {
         }
     }
 
+    /// What is left of the line, past whose end the reader goes. At the text's end the reader stays.
+    #[tactic(auto, using(crate::proofs::Runs::next_line_is, crate::proofs::Runs::line_length_line))]
+    pub(crate) fn take_line(&mut self) -> &'a [u8]
+        ensures line { result.now ≡ take (line_length (drop self.old.at self.old.text.now)) (drop self.old.at self.old.text.now) }
+        ensures text { self.new.text.now ≡ self.old.text.now }
+        ensures at { self.new.at ≡ next_line self.old.text.now self.old.at }
+        ensures number { self.new.number ≡ (if has_end self.old.text.now self.old.at then self.old.number + 1 else self.old.number) }
+    {
+        let line = self.rest_of_line();
+        self.at += line.len();
+        if !self.is_at_end() {
+            self.at += 1;
+            self.number += 1;
+        }
+        line
+    }
+
     /// Goes past the line's end, and answers whether another line begins there. At the text's end the reader stays.
-    #[tactic(auto, using(crate::proofs::Runs::next_line_is))]
     pub fn next_line(&mut self) -> bool
         ensures text { self.new.text.now ≡ self.old.text.now }
         ensures at { self.new.at ≡ next_line self.old.text.now self.old.at }
         ensures number { self.new.number ≡ (if has_end self.old.text.now self.old.at then self.old.number + 1 else self.old.number) }
         ensures more { result ≡ nat_lt (next_line self.old.text.now self.old.at) (length self.old.text.now) }
     {
-        self.at += line_length(self.rest());
-        if !self.is_at_end() {
-            self.at += 1;
-            self.number += 1;
-        }
+        let _line = self.take_line();
         !self.is_at_end()
     }
 }

@@ -35,7 +35,7 @@ pub fn read(text: &[u8], table: &mut [Line]) -> Result<usize, ReadFault>
         };
         *slot = line;
     }
-    match reader.next_entry()? {
+    match reader.entry()? {
         Some((number, _)) => Err(ReadFault::TooManyLines(number)),
         None => Ok(room),
     }

@@ -23,9 +23,7 @@ impl<'a> Iterator for Lines<'a> {
         if self.0.is_at_end() {
             return None;
         }
-        let line = self.0.rest_of_line();
-        self.0.next_line();
-        Some(line)
+        Some(self.0.take_line())
     }
 }
 
@@ -40,14 +38,22 @@ pub fn line_text(text: &[u8], number: usize) -> Option<&[u8]>
 }
 
 /// The number, from 1, of the text line that table line `n`, from 0, was read from: of the text lines with a token, the one with `n` before it.
+// No chain over `Lines`: of the line that is found no more is read than its first token.
 #[tactic(auto, using(crate::proofs::RuleTexts::read_from))]
 pub fn text_line_of(text: &[u8], n: usize) -> Option<usize>
     ensures value { result ≡ written_by text.now n }
     ensures source { ReadFromText text.now n }
 {
-    Lines(Reader::new(text))
-        .enumerate()
-        .filter(|(_, line)| Reader::new(line).next_token().is_some())
-        .nth(n)
-        .map(|(before, _)| before + 1)
+    let mut reader = Reader::new(text);
+    let mut before = n;
+    while !reader.is_at_end() {
+        if reader.next_token().is_some() {
+            if before == 0 {
+                return Some(reader.line_number());
+            }
+            before -= 1;
+        }
+        reader.next_line();
+    }
+    None
 }

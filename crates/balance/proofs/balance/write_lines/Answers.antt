@@ -13,7 +13,7 @@ pub loop-line-preserved : goal.loop-line-preserved
 unfolding pass
 loop-line-preserved c =
     let i = c.loop-line.line-index in
-    let xs = c.lines-line-items.result.now in
+    let xs = c.args.lines.now in
     let w = c.loop-line.invariant.wrote in
     record {
       nested = grind (arith, passing);

@@ -10,7 +10,7 @@ use Rattle.balance.proofs.balance.write_lines.Given as goal
 
 abbrev pub invariant-loop-line : goal.invariant-loop-line
 invariant-loop-line l = record {
-  nested : nesting_fault l.line-index (opens l.stack) (drop l.line-index l.line-items) ≡ None;
-  wrote : (front : List Line) × Wrote l.fn.out front l.out × (front ++ pass (opens l.stack) (drop l.line-index l.line-items) ≡ beginning ++ pass [] l.line-items);
-  short : AllByRecursion OperationShort (take l.line-index l.line-items);
+  nested : nesting_fault l.line-index (opens l.stack) (drop l.line-index l.lines) ≡ None;
+  wrote : (front : List Line) × Wrote l.fn.out front l.out × (front ++ pass (opens l.stack) (drop l.line-index l.lines) ≡ beginning ++ pass [] l.lines);
+  short : AllByRecursion OperationShort (take l.line-index l.lines);
 }

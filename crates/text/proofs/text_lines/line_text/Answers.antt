@@ -1,7 +1,5 @@
-use Rattle.std.proofs.Common.{◌≡◌, List, Bor, ℕ, arith}
+use Rattle.std.proofs.Common.{◌≡◌, arith}
 use Rattle.std.proofs.lemmas.Iterator.Consumers.{YieldsList-from_first, nth_from_yields_List}
-use Rattle.std.specs.List.{slice_get}
-use Rattle.std.specs.Option.{option_map}
 use Rattle.text.specs.Reading.{lines_left}
 use Rattle.text.specs.TextLines.{held, numbered_line, text_lines}
 use Rattle.text.specs.declared.text_lines.Lines.{Lines}
@@ -15,7 +13,6 @@ pub returns : goal.returns
 returns c =
     let text = c.args.text.now in
     let s : Lines = record { 0 = c.new.result } in
-    let e : option_map (λ (part : Bor (List ℕ)). part.now) c.nth.result ≡ slice_get (text_lines text) c.in_ok-before.before =
-    nth_from_yields_List c.nth.result c.nth.new.self c.in_ok-before.before c.nth.ensures.ran (YieldsList-from_first (λ part. part.now) (λ (t : Lines). lines_left t.0) {s = s} (text_lines text) (grind arith)) in
-    let v : held c.nth.result ≡ numbered_line text c.args.number = grind (arith, c.in_ok-before.ensures) in
+    let e = nth_from_yields_List c.nth.result c.nth.new.self _ c.nth.ensures.ran (YieldsList-from_first (λ part. part.now) (λ (t : Lines). lines_left t.0) {s = s} (text_lines text) (grind arith)) in
+    let v : held c.nth.result ≡ numbered_line text c.args.number = grind (arith, e, c.in_ok-before.ensures) in
     record { value = v; part = line_part text c.args.number _ v; lines = lines_of text }

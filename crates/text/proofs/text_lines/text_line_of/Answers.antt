@@ -1,39 +1,42 @@
-use Rattle.std.proofs.Common.{◌≡◌, ℕ, ◌+◌, ◌≤◌, List, [], ◌∷◌, length, Bool, Bor, rules, arith, refl}
+use Rattle.std.proofs.Common.{◌≡◌, ℕ, zero, suc, ◌-◌, ◌<◌, List, ◌∷◌, ap, ◌∙◌, arith}
 use Rattle.std.proofs.lemmas.Bool.Decides.{nat_tests}
-use Rattle.std.specs.List.{filter, enumerate_from, slice_get}
-use Rattle.std.specs.Option.{option_map}
-use Rattle.text.specs.Reading.{lines_left, token_lines}
-use Rattle.text.specs.TextLines.{text_lines}
-use Rattle.text.specs.Tokens.{tokens, some_token}
-use Rattle.std.proofs.lemmas.Iterator.Consumers.{YieldsList-from_first, YieldsList-from_filter, YieldsList-from_enumerate, YieldsList-at, nth_from_yields_List}
-use Rattle.text.specs.declared.text_lines.Lines.{Lines}
-use Rattle.text.proofs.Unread.{some_told}
+use Rattle.std.specs.List.{slice_get}
+use Rattle.text.specs.Operands.{SameLine}
+use Rattle.text.specs.TextLines.{next_line}
+use Rattle.text.proofs.Taking.{line_after}
+use Rattle.text.proofs.Unread.{numbers_behind, numbers_on, shrinks, some_told}
 use Rattle.text.proofs.text_lines.text_line_of.Goals as goal
+use Rattle.text.proofs.text_lines.text_line_of.Goals.{then-is_some+else-before-eq0, else-is_some}
 
-lines_few : (bs : List ℕ) → length (text_lines bs) ≤ length bs
-lines_few [] = omega arith
-lines_few (b ∷ bs) = grind (arith, nat_tests, lines_few bs)
+pub returns-then-before-eq0-clause-value : goal.returns-then-before-eq0-clause-value
+returns-then-before-eq0-clause-value c =
+    let r = c.loop-reader.reader in
+    let n = c.next_token.ensures in
+    let on : SameLine r c.next_token.new.self = record { text = n.text; number = n.number; next = ap (next_line r.text.now) n.at ∙ line_after r.text.now r.at } in
+    let told = some_told c.next_token.result _ n.token in
+    let numbers = numbers_on r c.next_token.new.self on in
+    grind (arith, nat_tests)
 
-abbrev has_token : ℕ × List ℕ → Bool
-has_token p = some_token (tokens 0 p.1)
+pub loop-reader-smaller : goal.loop-reader-smaller
+loop-reader-smaller c =
+    let r = c.loop-reader.reader in
+    let s = c.next_token.new.self in
+    grind (arith, nat_tests, line_after r.text.now r.at, shrinks r s)
 
-numbers : (i : ℕ) (ls : List (List ℕ)) (k : ℕ) → option_map (λ (p : ℕ × List ℕ). p.0 + 1) (slice_get (filter has_token (enumerate_from i ls)) k) ≡ slice_get (token_lines (i + 1) ls) k
-numbers i [] k = refl
-numbers i (l ∷ ls) k = grind (arith, numbers (i + 1) ls)
+past_found : (number : ℕ) (numbers : List ℕ) (k : ℕ) → 0 < k → slice_get (number ∷ numbers) k ≡ slice_get numbers (k - 1)
+past_found number numbers zero h = grind arith
+past_found number numbers (suc k) h = grind arith
 
-pub nth-requires : goal.nth-requires
-nth-requires c = let few : length (lines_left c.new.result) ≤ length c.args.text.now = grind (arith, lines_few c.args.text.now) in search rules
-
-pub returns-clause-value : goal.returns-clause-value
-returns-clause-value c =
-    let text = c.args.text.now in
-    let n = c.new.ensures in
-    let s : Lines = record { 0 = c.new.result } in
-    let all = text_lines text in
-    let e : option_map (λ (p : ℕ × Bor (List ℕ)). (p.0, p.1.now)) c.nth.result ≡ slice_get (filter has_token (enumerate_from 0 all)) c.args.n =
-    nth_from_yields_List c.nth.result c.nth.new.self c.args.n c.nth.ensures.ran
-    (YieldsList-from_filter _ has_token
-    (YieldsList-at c.filter.ensures.source
-    (YieldsList-from_enumerate (YieldsList-at c.enumerate.ensures.source (YieldsList-from_first (λ part. part.now) (λ (t : Lines). lines_left t.0) {s = s} all (grind arith))) c.enumerate.ensures.count))
-    c.filter.ensures.closure (λ x r q k. grind (arith, some_told, k))) in
-    grind (arith, numbers 0 all c.args.n, c.map.ensures.cases)
+pub loop-reader-preserved : goal.loop-reader-preserved
+loop-reader-preserved c =
+    let r = c.loop-reader.reader in
+    let n = c.next_token.ensures in
+    let on : SameLine r c.next_token.new.self = record { text = n.text; number = n.number; next = ap (next_line r.text.now) n.at ∙ line_after r.text.now r.at } in
+    let told = some_told c.next_token.result _ n.token in
+    let numbers = numbers_on r c.next_token.new.self on in
+    elim c.if-is_some.branch [
+      | then-is_some+else-before-eq0 w ↦
+          let found : slice_get (r.number ∷ numbers_behind c.next_token.new.self) c.loop-reader.before ≡ slice_get (numbers_behind c.next_token.new.self) (c.loop-reader.before - 1) = past_found r.number (numbers_behind c.next_token.new.self) c.loop-reader.before (omega (arith, w.if-before-eq0.false)) in
+          grind (arith, nat_tests)
+      | else-is_some w ↦ grind (arith, nat_tests)
+    ]

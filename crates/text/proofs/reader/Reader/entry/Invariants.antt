@@ -1,6 +1,6 @@
 use Rattle.std.proofs.Common.{◌≡◌, ◌-◌, ℕ, length}
 use Rattle.text.specs.Reading.{unread}
-use Rattle.text.proofs.reader.Reader.next_entry.Given as goal
+use Rattle.text.proofs.reader.Reader.entry.Given as goal
 
 abbrev pub invariant-loop-self : goal.invariant-loop-self
 invariant-loop-self l = (room : ℕ) → unread room l.initial.self ≡ unread room l.self
